@@ -1,0 +1,5 @@
+pub mod Rule
+pub mod Refusal
+pub mod Running
+pub mod Remainders
+pub mod Cutoff
