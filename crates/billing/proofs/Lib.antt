@@ -1,0 +1,15 @@
+pub mod Beside
+pub mod PotLaws
+pub mod FractionLaws
+pub mod RoomLaws
+pub mod BillLaws
+pub mod RemainderLaws
+pub mod FloorLaws
+pub mod StatedLaws
+pub mod PeriodLaws
+pub mod Claimants
+pub mod Written
+pub mod Summed
+pub mod Gathered
+pub mod Counted
+pub mod HouseLaws

@@ -1,0 +1,9 @@
+pub mod Balances
+pub mod LedgerLaws
+pub mod FoundRooms
+pub mod Merges
+pub mod Entries
+pub mod KeptLaws
+pub mod Held
+pub mod Carrying
+pub mod RunLaws
