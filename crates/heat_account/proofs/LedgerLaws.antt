@@ -54,6 +54,9 @@ ruled-ok : {X : Type 0} (o : Option Reason) (x y : X) → ruled o x ≡ Ok y →
 ruled-ok None x y e = (refl, cc)
 ruled-ok (Some reason) x y e = let z : _≡_ {A = ℕ} 0 1 = cc in absurd (omega arith)
 
+some-closed : (n : ℕ) → eqb n 0 ≡ false → 0 < n
+some-closed n e = omega (arith, eqb-false n 0 e)
+
 not-correcting : (o : Option Correction) → correcting (stage-of o) ≡ false → o ≡ None
 not-correcting None e = refl
 not-correcting (Some c) e = let z : _≡_ {A = ℕ} 0 1 = cc in absurd (omega arith)
@@ -96,8 +99,7 @@ module _ (shares : Shares) (plan : Plan) where
       let b = unless-ok (eqb (length (l .closed)) 0) _ _ i (a .1) in
       let c = and-then-ok (meter-of plan room m) _ i (b .1) in
       let d = ruled-ok (unamendable plan (latest plan (l .closed)) (c .0) m) (c .0) i (c .1) in
-      let none : eqb (length (l .closed)) 0 ≡ false = b .0 in
-      let some : 0 < length (l .closed) = omega (arith, eqb-false (length (l .closed)) 0 none) in
+      let some = some-closed (length (l .closed)) (b .0) in
       record { periods = s .periods; correction = (refl, some, subst (λ (v : ℕ). unamendable plan (latest plan (l .closed)) v m ≡ None) (d .1) (d .0)) }
   noted-sound l (Book h p) i e s = record { periods = booked-workable plan (l .closed) (l .correction) (s .periods) (s .correction); correction = tt }
   noted-sound l (Withdraw h p) i e s = record { periods = s .periods; correction = tt }

@@ -104,17 +104,17 @@ impl Tables {
     }
 
     // Puts a corrected reading and its bills in place.
-    pub(crate) fn amend(&mut self, place: usize, reading: u32, bills: Table<(u32, u32), ROOMS>)
-        requires long { ⌜ length (table-items bills) ≡ length (table-items (now self .balances)) ⌝ }
+    pub(crate) fn amend(&mut self, place: usize, reading: u32, corrected: Table<(u32, u32), ROOMS>)
+        requires long { ⌜ length (table-items corrected) ≡ length (table-items (now self .balances)) ⌝ }
         requires same { ⌜ length (table-items (now self .bills)) ≡ length (table-items (now self .balances)) ⌝ }
         requires room { ⌜ ((k : ℕ) → getD (table-items (now self .balances)) k 0 < 2 ^ 63) ⌝ }
         requires covered { ⌜ ((k : ℕ) → figures (getD (table-items (now self .bills)) k (0, 0)) ≤ getD (table-items (now self .balances)) k 0) ⌝ }
-        ensures { λ _. ⌜ state-of (now (self .exit)) ≡ with-amended (state-of (now (self .entry))) (reread (period-of (now (self .entry) .last)) place reading) (table-items bills) ⌝ }
+        ensures { λ _. ⌜ state-of (now (self .exit)) ≡ with-amended (state-of (now (self .entry))) (reread (period-of (now (self .entry) .last)) place reading) (table-items corrected) ⌝ }
     {
         self.last.readings.set(place, Some(reading));
         take_off(&mut self.balances, self.bills.as_slice());
-        put_on(&mut self.balances, bills.as_slice());
-        self.bills = bills;
+        put_on(&mut self.balances, corrected.as_slice());
+        self.bills = corrected;
         self.stage = Stage::Taking;
     }
 

@@ -54,13 +54,8 @@ impl<R: Sharing> Account<R> {
     ) -> Result<Table<(u32, u32), ROOMS>, Reason>
         ensures { λ r. ⌜ held r ≡ ruled (refusal (plan-of (now (self .entry) .house) .method) (counted (plan-of (now (self .entry) .house) .rooms) (state-of (now (self .entry) .tables) .readings)) total common) (period-bills (shares (now (self .entry) .rule)) (plan-of (now (self .entry) .house)) (record { readings = state-of (now (self .entry) .tables) .readings; total = total; common = common })) ⌝ }
     {
-        work_out(
-            &self.rule,
-            &self.house,
-            self.tables.readings.as_slice(),
-            total,
-            common,
-        )
+        let readings = self.tables.readings.as_slice();
+        work_out(&self.rule, &self.house, readings, total, common)
     }
 
     // The bills of the last closed period with another reading.
@@ -113,10 +108,10 @@ impl<R: Sharing> Account<R> {
         ensures value { λ r. ⌜ r ≡ judged (plan-of (now (self .entry) .house)) (state-of (now (self .entry) .tables)) (Bill room) ⌝ }
         ensures within { λ r. ⌜ made r (λ i. i < length (plan-of (now (self .entry) .house) .rooms)) ⌝ }
     {
-        if self.tables.closed == 0 {
-            return Err(Reason::NothingClosed);
+        match self.tables.closed {
+            0 => Err(Reason::NothingClosed),
+            _ => self.place(room),
         }
-        self.place(room)
     }
 
     pub(crate) fn look_up_bill(&self, room: u32) -> Result<(u32, u32), Fault>

@@ -1,12 +1,11 @@
 ghost use mathlib.Core.Path.{_≡_};
 ghost use mathlib.Core.Bool.{cond};
 ghost use mathlib.Core.List.{[], _∷_, _++_};
-ghost use Prim.Native.Nat.{min};
+ghost use Prim.Native.Nat.{min, _<_, _≤_};
 ghost use lib.Dec.{ltb};
 ghost use lib.ListN.{length, replicate, set};
 ghost use Rattle.std.specs.Results.{isOk};
 ghost use Rattle.std.specs.declared.result.Result.the-variants.{Ok, Err};
-ghost use Rattle.std.specs.shelf.Maps.{nth};
 ghost use Rattle.tables.specs.Held.{table-items};
 use crate::Table;
 
@@ -31,20 +30,16 @@ impl<T: Copy, const N: usize> Table<T, N> {
     pub fn filled(x: T, n: usize) -> Self
         ensures { λ r. ⌜ table-items r ≡ replicate (min n N) x ⌝ }
     {
-        Table {
-            count: n.min(N),
-            items: [x; N],
-        }
+        Table::with_count(x, n.min(N))
     }
 
-    // The value at `i`, or `None` past the end.
-    pub fn get(&self, i: usize) -> Option<T>
-        ensures { λ r. ⌜ r ≡ nth (table-items (now (self .entry))) i ⌝ }
+    fn with_count(x: T, count: usize) -> Self
+        requires { ⌜ count ≤ N ⌝ }
+        ensures { λ r. ⌜ table-items r ≡ replicate count x ⌝ }
     {
-        if i < self.count {
-            Some(self.items[i])
-        } else {
-            None
+        Table {
+            count,
+            items: [x; N],
         }
     }
 
@@ -66,11 +61,18 @@ impl<T: Copy, const N: usize> Table<T, N> {
         ensures value { λ r. ⌜ r ≡ ltb i (length (table-items (now (self .entry)))) ⌝ }
         ensures after { λ _. ⌜ table-items (now (self .exit)) ≡ set (table-items (now (self .entry))) i x ⌝ }
     {
-        if i >= self.count {
-            return false;
+        if i < self.len() {
+            self.write(i, x);
+            return true;
         }
+        false
+    }
+
+    fn write(&mut self, i: usize, x: T)
+        requires { ⌜ i < length (table-items (now self)) ⌝ }
+        ensures { λ _. ⌜ table-items (now (self .exit)) ≡ set (table-items (now (self .entry))) i x ⌝ }
+    {
         self.items[i] = x;
-        true
     }
 
     // Holds from now on what `other` holds.
