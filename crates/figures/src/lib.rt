@@ -8,7 +8,7 @@ ghost use Rattle.figures.specs.Table.{Holds, table};
 fn count() -> usize
     ensures { λ r. ⌜ r ≡ length table ⌝ }
 {
-    6
+    12
 }
 
 // The number of worked figures, each of which follows from the written rules.
