@@ -116,16 +116,36 @@ fn a_slip_fits_by_its_numbers() -> Result<(), Fail> {
     check_eq(figures_of(&account)?, CLOSED)
 }
 
+fn refused(reason: Reason) -> Answer {
+    Answer::Refused(Fault::new(reason, Place::Nowhere))
+}
+
 #[test]
 fn the_600th_closing_is_the_last() -> Result<(), Fail> {
-    let mut account = open(1, Method::Stated { floor_percent: 0 }, &[(Kind::Plain, 1)])?;
+    let method = Method::Remainder { common_area: 0 };
+    let mut account = open(1, method, &[(Kind::Metered, 1), (Kind::Plain, 1)])?;
     for period in 1..601 {
-        check_eq(account.close(100_000_000, Some(0)), Ok(period))?;
+        check_eq(account.close(100_000_000, None), Ok(period))?;
     }
-    check_eq(account.balance(1), Ok(60_000_000_000))?;
-    let full = Err(Fault::new(Reason::PeriodsFull, Place::Nowhere));
-    check_eq(account.close(100_000_001, None), full)?;
-    check_eq(account.balance(1), Ok(60_000_000_000))
+    let more = Call::Close {
+        total: 100_000_001,
+        common: None,
+    };
+    check_eq(account.perform(more), refused(Reason::PeriodsFull))?;
+    check_eq(account.balance(1), Ok(30_000_000_000))?;
+    // Readings and corrections go on.
+    check_eq(account.read(1, 5), Ok(()))?;
+    let (house, period) = (1, 600);
+    check_eq(
+        account.perform(Call::Correct {
+            room: 1,
+            reading: 0,
+        }),
+        Answer::Corrected { house, period },
+    )?;
+    check_eq(account.perform(more), refused(Reason::CorrectionOpen))?;
+    check_eq(account.perform(Call::Book { house, period }), Answer::Done)?;
+    check_eq(account.balance(1), Ok(29_950_000_000))
 }
 
 const CALLS: [Call; 9] = [
@@ -160,10 +180,6 @@ const CALLS: [Call; 9] = [
         period: 1,
     },
 ];
-
-fn refused(reason: Reason) -> Answer {
-    Answer::Refused(Fault::new(reason, Place::Nowhere))
-}
 
 #[test]
 fn a_run_answers_each_call() -> Result<(), Fail> {
