@@ -1,4 +1,4 @@
-// Where a refusal stands: nowhere in sharing and printing, else at a room or in a text.
+// Where a refusal stands: at a room or in a text, and nowhere where neither was named.
 #[derive(Clone, Copy, PartialEq, Eq, Debug)]
 pub enum Place {
     Nowhere,
