@@ -7,3 +7,4 @@ pub mod KeptLaws
 pub mod Held
 pub mod Carrying
 pub mod RunLaws
+pub mod Slips

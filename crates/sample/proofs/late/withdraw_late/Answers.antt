@@ -2,7 +2,7 @@ use mathlib.Core.Path.{ap}
 use Rattle.sharing.specs.Remainders.{remainders}
 use Rattle.house.specs.Houses.{plan-of}
 use Rattle.heat_account.specs.Tables.{state-of}
-use Rattle.season.proofs.Slips.{fitting, withdrawn}
+use Rattle.heat_account.proofs.Slips.{fitting, withdrawn}
 use Rattle.sample.proofs.late.withdraw_late.Needs as need
 
 pub unreachable-requires : need.unreachable-requires

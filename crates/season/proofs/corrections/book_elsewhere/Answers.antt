@@ -6,7 +6,7 @@ use Rattle.heat_account.specs.declared.slip.Slip.{Slip}
 use Rattle.heat_account.specs.declared.call.Call.the-variants.{Book}
 use Rattle.heat_account.specs.Judged.{result, fits}
 use Rattle.heat_account.specs.Tables.{state-of}
-use Rattle.season.proofs.Slips.{fitting, withdrawn, handed-back}
+use Rattle.heat_account.proofs.Slips.{fitting, withdrawn, handed-back}
 use Rattle.season.proofs.corrections.book_elsewhere.Needs as need
 
 pub unreachable-requires : need.unreachable-requires
