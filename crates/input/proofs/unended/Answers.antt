@@ -8,5 +8,5 @@ returns-in-len1-up c = unended_body c.args.line.now (omega (arith, ltb-true, ltb
 pub returns-in-default : goal.returns-in-default
 returns-in-default c = unended_same c.args.line.now (λ l. absurd (omega (arith, ltb-true, ltb-false)))
 
-pub returns-in-default·2 : goal.returns-in-default·2
-returns-in-default·2 c = unended_same c.args.line.now (λ l. sym c.ends-line.ensures ∙ c.if-ends-line.false)
+pub returns-in-default-2 : goal.returns-in-default-2
+returns-in-default-2 c = unended_same c.args.line.now (λ l. sym c.ends-line.ensures ∙ c.if-ends-line.false)

@@ -9,8 +9,8 @@ returns-then-w-b t c = record {
   within = omega (arith, c.front.ensures.within, ltb-true, ltb-false, length_tail c.args.text.now);
 }
 
-pub returns-in-default : goal.returns-in-default
-returns-in-default t c = record { value = common_off c.args.word.now c.args.text.now (λ a b e. absurd (omega (arith, ltb-true, ltb-false))); small = omega arith; within = omega arith }
+pub returns-in_default : goal.returns-in_default
+returns-in_default t c = record { value = common_off c.args.word.now c.args.text.now (λ a b e. absurd (omega (arith, ltb-true, ltb-false))); small = omega arith; within = omega arith }
 
-pub returns-in-default·2 : goal.returns-in-default·2
-returns-in-default·2 t c = record { value = common_off c.args.word.now c.args.text.now (λ a b e. absurd (omega (arith, ltb-true, ltb-false))); small = omega arith; within = omega arith }
+pub returns-in_default-2 : goal.returns-in_default-2
+returns-in_default-2 t c = record { value = common_off c.args.word.now c.args.text.now (λ a b e. absurd (omega (arith, ltb-true, ltb-false))); small = omega arith; within = omega arith }

@@ -5,14 +5,14 @@ use Rattle.std.proofs.lemmas.Int.Digits.{digits_value_more}
 use Rattle.forms.proofs.Fronts.{few_digits, digit_value}
 use Rattle.forms.proofs.reading.value_of.Goals as goal
 
-pub overflow-mul-value : goal.overflow-mul-value
-overflow-mul-value c = omega (arith, few_digits c.args.digits.now c.loop-digit.digit-index c.requires.digits c.loop-digit-test.true c.requires.few)
+pub overflow_mul-value : goal.overflow_mul-value
+overflow_mul-value c = omega (arith, few_digits c.args.digits.now c.loop-digit.digit-index c.requires.digits c.loop-digit-test.true c.requires.few)
 
-pub overflow-sub-value : goal.overflow-sub-value
-overflow-sub-value c = omega (arith, digit_value c.args.digits.now c.loop-digit.digit-index c.requires.digits c.loop-digit-test.true)
+pub overflow_sub-value : goal.overflow_sub-value
+overflow_sub-value c = omega (arith, digit_value c.args.digits.now c.loop-digit.digit-index c.requires.digits c.loop-digit-test.true)
 
-pub overflow-add-value : goal.overflow-add-value
-overflow-add-value c = omega (arith, few_digits c.args.digits.now c.loop-digit.digit-index c.requires.digits c.loop-digit-test.true c.requires.few, digit_value c.args.digits.now c.loop-digit.digit-index c.requires.digits c.loop-digit-test.true)
+pub overflow_add-value : goal.overflow_add-value
+overflow_add-value c = omega (arith, few_digits c.args.digits.now c.loop-digit.digit-index c.requires.digits c.loop-digit-test.true c.requires.few, digit_value c.args.digits.now c.loop-digit.digit-index c.requires.digits c.loop-digit-test.true)
 
 pub loop-digit-preserved : goal.loop-digit-preserved
 loop-digit-preserved c = omega (arith, digits_value_more 10 c.args.digits.now c.loop-digit.digit-index c.loop-digit-test.true, digit_value c.args.digits.now c.loop-digit.digit-index c.requires.digits c.loop-digit-test.true)

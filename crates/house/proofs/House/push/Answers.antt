@@ -11,10 +11,10 @@ taken : (c : goal.After-push) → table_items c.push.new.self ≡ table_items c.
 taken c =
     pushed c.args.self.now.method (table_items c.args.self.now.rooms) c.args.room c.requires c.push.result (table_items c.push.new.self) c.push.ensures.value c.push.ensures.after
 
-pub invariant-of-self : goal.invariant-of-self
-invariant-of-self c =
+pub invariant_of-self : goal.invariant_of-self
+invariant_of-self c =
     let s = c.args.self.now in
-    (ap (lawful s.number s.method) (taken c) ∙ lawful_push s.number s.method (table_items s.rooms) c.args.room s.lawful c.requires, tt)
+    record { lawful = ap (lawful s.number s.method) (taken c) ∙ lawful_push s.number s.method (table_items s.rooms) c.args.room s.lawful c.requires }
 
 pub returns : goal.returns
 returns c =

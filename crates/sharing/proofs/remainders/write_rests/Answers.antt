@@ -5,14 +5,14 @@ use Rattle.sharing.specs.Totals.{entry_le_sum}
 use Rattle.sharing.specs.RemainderLaws.{floors_front, floors_front_le}
 use Rattle.sharing.proofs.remainders.write_rests.Goals as goal
 
-pub overflow-cast-left : goal.overflow-cast-left
-overflow-cast-left c = omega (arith, c.floor.ensures, floors_front c.args.pot.total c.args.pot.all c.args.weights.now c.loop-i.i c.loop-i-test.true, floors_front_le c.args.pot.total c.args.pot.all c.args.weights.now (c.loop-i.i + 1) c.requires.sum)
+pub overflow_cast-left : goal.overflow_cast-left
+overflow_cast-left c = omega (arith, c.floor.ensures, floors_front c.args.pot.total c.args.pot.all c.args.weights.now c.loop-i.i c.loop-i-test.true, floors_front_le c.args.pot.total c.args.pot.all c.args.weights.now (c.loop-i.i + 1) c.requires.sum)
 
 pub rest-requires : goal.rest-requires
 rest-requires c = omega (arith, entry_le_sum c.args.weights.now c.loop-i.i c.loop-i-test.true)
 
-pub overflow-sub-left : goal.overflow-sub-left
-overflow-sub-left c =
+pub overflow_sub-left : goal.overflow_sub-left
+overflow_sub-left c =
     omega (arith, c.floor.ensures, floors_front c.args.pot.total c.args.pot.all c.args.weights.now c.loop-i.i c.loop-i-test.true, floors_front_le c.args.pot.total c.args.pot.all c.args.weights.now (c.loop-i.i + 1) c.requires.sum)
 
 pub loop-i-preserved : goal.loop-i-preserved

@@ -4,14 +4,14 @@ use Rattle.sharing.specs.Cutoffs.{unit_le}
 use Rattle.sharing.specs.RemainderLaws.{given, given_more, floor_le}
 use Rattle.sharing.proofs.remainders.write_shares.Goals as goal
 
-pub overflow-cast-place : goal.overflow-cast-place
-overflow-cast-place c = omega (arith, c.floor.ensures, floor_le c.args.pot.total c.args.pot.all c.args.weights.now c.loop-i.i c.requires.sum c.loop-i-test.true)
+pub overflow_cast-place : goal.overflow_cast-place
+overflow_cast-place c = omega (arith, c.floor.ensures, floor_le c.args.pot.total c.args.pot.all c.args.weights.now c.loop-i.i c.requires.sum c.loop-i-test.true)
 
 pub rest-requires : goal.rest-requires
 rest-requires c = omega (arith, entry_le_sum c.args.weights.now c.loop-i.i c.loop-i-test.true)
 
-pub overflow-add-place : goal.overflow-add-place
-overflow-add-place c =
+pub overflow_add-place : goal.overflow_add-place
+overflow_add-place c =
     omega (arith, c.floor.ensures, floor_le c.args.pot.total c.args.pot.all c.args.weights.now c.loop-i.i c.requires.sum c.loop-i-test.true, c.next.ensures.value, unit_le c.loop-i.odd.cutoff c.loop-i.odd.spare c.rest.result)
 
 pub loop-i-preserved : goal.loop-i-preserved

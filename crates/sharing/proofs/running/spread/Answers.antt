@@ -14,8 +14,8 @@ next-requires c = record {
   rises = omega (arith, rising c.args.pot.total c.loop-i.run.passed (get_or c.args.weights.now c.loop-i.i 0) c.args.pot.all, c.loop-i.invariant.1);
 }
 
-pub overflow-cast-place : goal.overflow-cast-place
-overflow-cast-place c =
+pub overflow_cast-place : goal.overflow_cast-place
+overflow_cast-place c =
     let le = sum_front_le c.args.weights.now c.loop-i.i c.loop-i.run.passed c.loop-i-test.true c.loop-i.invariant.0 in
     omega (arith, c.next.ensures.value, capped c.args.pot.total (c.loop-i.run.passed + get_or c.args.weights.now c.loop-i.i 0) c.args.pot.all (omega arith))
 

@@ -7,12 +7,12 @@ use Rattle.forms.proofs.Fronts.{common_small, common_full}
 use Rattle.forms.proofs.Walks.{word_there, spot_onward}
 use Rattle.forms.proofs.cursor.Cursor.word.Goals as goal
 
-pub invariant-of-self : goal.invariant-of-self
-invariant-of-self c =
+pub invariant_of-self : goal.invariant_of-self
+invariant_of-self c =
     let text = c.args.self.now.text.now in
     let at = c.args.self.now.at in
     let left : length c.rest.result.now ≡ length text - at = ap length c.rest.ensures ∙ length-drop at text in
-    (omega (arith, c.front-same.ensures.within, c.args.self.now.within), tt)
+    record { within = omega (arith, c.front-same.ensures.within, c.args.self.now.within) }
 
 pub returns : goal.returns
 returns c =
