@@ -12,7 +12,7 @@ loop-i-preserved c =
     let rooms = c.args.rooms.now in
     let readings = c.args.readings.now in
     write_more c.loop-i.place (counted rooms readings) (counted (drop i rooms) (drop i readings)) (counted (drop (i + 1) rooms) (drop (i + 1) readings)) i c.count.result (omega arith)
-    (counted_next rooms readings i _ c.reading-at.result c.count.result c.loop-i-test.true c.reading-at.ensures c.count.ensures)
+    (counted_next rooms readings i _ c.reading_at.result c.count.result c.loop-i-test.true c.reading_at.ensures c.count.ensures)
     c.loop-i.invariant
 
 pub returns : goal.returns

@@ -10,6 +10,6 @@ returns g c =
     let rooms = c.args.rooms.now in
     let total = c.args.total in
     let common = c.args.common in
-    let place = table_items c.pair-up.result in
-    let made = bills_made shares method rooms total common place c.write-own-heats.new.place c.write-common-shares.new.place c.pair-up.ensures c.write-own-heats.ensures c.write-common-shares.ensures in
+    let place = table_items c.pair_up.result in
+    let made = bills_made shares method rooms total common place c.write_own_heats.new.place c.write_common_shares.new.place c.pair_up.ensures c.write_own_heats.ensures c.write_common_shares.ensures in
     record { bills = made; laws = bills_lawful shares method rooms total common place made (g.met.R.Sharing.fair c.args.rule.now) c.requires }

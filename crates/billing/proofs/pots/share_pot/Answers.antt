@@ -4,19 +4,19 @@ use Rattle.billing.proofs.PotLaws.{weights_length}
 use Rattle.billing.proofs.Gathered.{pot_accepted, given_back}
 use Rattle.billing.proofs.pots.share_pot.Goals as goal
 
-pub slice-bounds-share-end : goal.slice-bounds-share-end
-slice-bounds-share-end g c = let h = weights_length c.args.claims.now in search rules
+pub slice_bounds-share-end : goal.slice_bounds-share-end
+slice_bounds-share-end g c = let h = weights_length c.args.claims.now in search rules
 
 pub unreachable-requires : goal.unreachable-requires
 unreachable-requires g c =
     let claims = c.args.claims.now in
-    let none = pot_accepted c.args.pot claims c.gather-count.new.place c.gather-count.result (length c.no-figures-shares.result) c.gather-count.ensures.front c.no-figures-shares.ensures c.requires.shareable in
+    let none = pot_accepted c.args.pot claims c.gather-count.new.place c.gather-count.result (length c.no_figures-shares.result) c.gather-count.ensures.front c.no_figures-shares.ensures c.requires.shareable in
     let e : Err c.in-Err.field-0 ≡ Ok (tt {0}) = c.in-Err.ensures.value ∙ ap (λ o. answer o (tt {0})) none in
     let z : ◌≡◌ {A = ℕ} 0 1 = cc in
     omega arith
 
-pub put-back-requires : goal.put-back-requires
-put-back-requires g c =
+pub put_back-requires : goal.put_back-requires
+put_back-requires g c =
     record { room = c.requires.room; each = let h = weights_length c.args.claims.now in simp length-take (omega arith) }
 
 pub returns : goal.returns
@@ -25,7 +25,7 @@ returns g c =
     let claims = c.args.claims.now in
     let count = c.gather-count.result in
     let place = c.gather-count.new.place in
-    let held = c.no-figures-shares.result in
+    let held = c.no_figures-shares.result in
     let front = c.gather-count.ensures.front in
-    let none = pot_accepted pot claims place count (length held) front c.no-figures-shares.ensures c.requires.shareable in
-    given_back pot claims place count (length held) front (g.R.Sharing.shares c.args.rule.now) (g.met.R.Sharing.fair c.args.rule.now) held c.share.new.place c.put-back.new.place c.gather-count.ensures.count none c.share.ensures.after c.put-back.ensures
+    let none = pot_accepted pot claims place count (length held) front c.no_figures-shares.ensures c.requires.shareable in
+    given_back pot claims place count (length held) front (g.R.Sharing.shares c.args.rule.now) (g.met.R.Sharing.fair c.args.rule.now) held c.share.new.place c.put_back.new.place c.gather-count.ensures.count none c.share.ensures.after c.put_back.ensures

@@ -5,7 +5,7 @@ use Rattle.billing.specs.Remainder.{own_heat}
 use Rattle.billing.proofs.RoomLaws.{not_read}
 use Rattle.billing.proofs.Written.{change_more, change_none, change_all}
 use Rattle.billing.proofs.remainder.put_readings.Goals as goal
-use Rattle.billing.proofs.remainder.put_readings.Goals.{in-Read, in-default}
+use Rattle.billing.proofs.remainder.put_readings.Goals.{in-Read, in_default}
 
 pub loop-i-preserved : goal.loop-i-preserved
 loop-i-preserved c =
@@ -18,7 +18,7 @@ loop-i-preserved c =
     let Next : List ℕ → Type 0 = λ v. take (i + 1) v ++ beside own_heat (drop (i + 1) rooms) (drop (i + 1) v) ≡ whole in
     elim c.match-room.branch [
       | in-Read w ↦ subst Next (sym w.place-is) (change_more own_heat rooms place whole i _ _ h (omega arith) (ap (λ role. if_read role (λ m. m) share) w.in-Read.is) c.loop-i.invariant)
-      | in-default w ↦ subst Next (sym w.place-is) (change_none own_heat rooms place whole i _ h (omega arith) (not_read _ (λ m. m) share w.in-default.not-Read) c.loop-i.invariant)
+      | in_default w ↦ subst Next (sym w.place-is) (change_none own_heat rooms place whole i _ h (omega arith) (not_read _ (λ m. m) share w.in_default.not-Read) c.loop-i.invariant)
     ]
 
 pub returns : goal.returns

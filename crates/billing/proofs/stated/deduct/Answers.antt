@@ -11,8 +11,8 @@ less deduction heat = heat - deduction
 abbrev Covered : ℕ → ℕ → Type 0
 Covered heat deduction = deduction ≤ heat
 
-pub overflow-sub-place : goal.overflow-sub-place
-overflow-sub-place c = (both_drop Covered c.loop-i.place c.args.deductions.now c.loop-i.i 0 0 (omega arith) c.loop-i-test.true c.loop-i.invariant.1).0
+pub overflow_sub-place : goal.overflow_sub-place
+overflow_sub-place c = (both_drop Covered c.loop-i.place c.args.deductions.now c.loop-i.i 0 0 (omega arith) c.loop-i-test.true c.loop-i.invariant.1).0
 
 pub loop-i-preserved : goal.loop-i-preserved
 loop-i-preserved c =

@@ -5,20 +5,20 @@ use Rattle.billing.proofs.stated.write_deductions.Goals as goal
 pub surcharges-requires : goal.surcharges-requires
 surcharges-requires g c = record {
   few = c.requires.floored.few;
-  among = among_by c.args.floor-percent c.args.rooms.now c.requires.floored c.of-floors.result c.of-floors.ensures;
+  among = among_by c.args.floor_percent c.args.rooms.now c.requires.floored c.of-floors.result c.of-floors.ensures;
 }
 
-pub overflow-cast-surcharges : goal.overflow-cast-surcharges
-overflow-cast-surcharges g c =
-    omega (arith, (excess_shareable c.args.floor-percent c.args.rooms.now c.requires.floored c.of-floors.result c.of-floors.ensures c.surcharges.result c.surcharges.ensures).small)
+pub overflow_cast-surcharges : goal.overflow_cast-surcharges
+overflow_cast-surcharges g c =
+    omega (arith, (excess_shareable c.args.floor_percent c.args.rooms.now c.requires.floored c.of-floors.result c.of-floors.ensures c.surcharges.result c.surcharges.ensures).small)
 
-pub share-by-requires : goal.share-by-requires
-share-by-requires g c = record {
+pub share_by-requires : goal.share_by-requires
+share_by-requires g c = record {
   room = c.requires.room;
-  shareable = excess_shareable c.args.floor-percent c.args.rooms.now c.requires.floored c.of-floors.result c.of-floors.ensures c.surcharges.result c.surcharges.ensures;
+  shareable = excess_shareable c.args.floor_percent c.args.rooms.now c.requires.floored c.of-floors.result c.of-floors.ensures c.surcharges.result c.surcharges.ensures;
 }
 
 pub returns : goal.returns
 returns g c =
-    c.share-by.ensures
-    ∙ excess_shares c.args.floor-percent c.args.rooms.now c.requires.floored c.of-floors.result c.of-floors.ensures c.surcharges.result c.surcharges.ensures (g.R.Sharing.shares c.args.rule.now)
+    c.share_by.ensures
+    ∙ excess_shares c.args.floor_percent c.args.rooms.now c.requires.floored c.of-floors.result c.of-floors.ensures c.surcharges.result c.surcharges.ensures (g.R.Sharing.shares c.args.rule.now)

@@ -11,16 +11,16 @@ use Rattle.events.specs.declared.event.Event.TheVariants.{Correct}
 use Rattle.events.specs.Events.{said, next_ending, ending_word}
 use Rattle.events.proofs.Steps.{on_word, on_number, first_next, second_next, ended, refused}
 use Rattle.events.proofs.reading.read_correction.Goals as goal
-use Rattle.events.proofs.reading.read_correction.Goals.{In-ok-room, In-ok-word, In-ok-figure, After-word-3}
+use Rattle.events.proofs.reading.read_correction.Goals.{In_ok-room, In_ok-word, In_ok-figure, After-word-3}
 
-behind_room : (f : Figure → Form Event) (c : In-ok-room) → said (number f) c.args.cursor ≡ said (f (figure_of c.in-ok-room.room)) c.number.new.self
-behind_room f c = on_number f c.args.cursor c.number.new.self _ c.in-ok-room.ensures.value c.number.ensures.after
+behind_room : (f : Figure → Form Event) (c : In_ok-room) → said (number f) c.args.cursor ≡ said (f (figure_of c.in_ok-room.room)) c.number.new.self
+behind_room f c = on_number f c.args.cursor c.number.new.self _ c.in_ok-room.ensures.value c.number.ensures.after
 
-behind_word : (f : Form Event) (c : In-ok-word) → said (word (codes " ") f) c.number.new.self ≡ said f c.word.new.self
-behind_word f c = on_word _ f c.number.new.self c.word.new.self _ c.in-ok-word.ensures.value c.word.ensures.after
+behind_word : (f : Form Event) (c : In_ok-word) → said (word (codes " ") f) c.number.new.self ≡ said f c.word.new.self
+behind_word f c = on_word _ f c.number.new.self c.word.new.self _ c.in_ok-word.ensures.value c.word.ensures.after
 
-behind_figure : (f : Figure → Form Event) (c : In-ok-figure) → said (number f) c.word.new.self ≡ said (f (figure_of c.in-ok-figure.figure)) c.number-2.new.self
-behind_figure f c = on_number f c.word.new.self c.number-2.new.self _ c.in-ok-figure.ensures.value c.number-2.ensures.after
+behind_figure : (f : Figure → Form Event) (c : In_ok-figure) → said (number f) c.word.new.self ≡ said (f (figure_of c.in_ok-figure.figure)) c.number-2.new.self
+behind_figure f c = on_number f c.word.new.self c.number-2.new.self _ c.in_ok-figure.ensures.value c.number-2.ensures.after
 
 -- the next byte leaves one ending
 one_ending : (f : Ending → Event) (c : Cursor) → said (either (word (codes "book)") (done (f Book))) (word (codes "withdraw)") (done (f Withdraw)))) c ≡ said (word (ending_word (next_ending (spot_of c).rest)) (done (f (next_ending (spot_of c).rest)))) c
@@ -29,47 +29,47 @@ one_ending f c = go (eqb (get_or (spot_of c).rest 0 0) 98) refl where
   go true h = first_next 98 119 _ _ _ _ c (λ e. omega (arith, e)) (eqb-true _ _ h) ∙ ap (λ (e : Ending). said (word (ending_word e) (done (f e))) c) (sym (cond-true _ _ _ h))
   go false h = second_next 98 119 _ _ _ _ c (λ _ e. eqb-false _ _ h e) ∙ ap (λ (e : Ending). said (word (ending_word e) (done (f e))) c) (sym (cond-false _ _ _ h))
 
-pub returns-in-err-room : goal.returns-in-err-room
-returns-in-err-room c = refused _ c.from-residual.ensures.1 (no_number _ (spot_of c.args.cursor) _ c.in-err-room.ensures.value)
+pub returns-in_err-room : goal.returns-in_err-room
+returns-in_err-room c = refused _ c.from_residual.ensures.1 (no_number _ (spot_of c.args.cursor) _ c.in_err-room.ensures.value)
 
-pub returns-in-err-word : goal.returns-in-err-word
-returns-in-err-word c =
-    let at = goal.at.returns-in-err-word c in
-    refused _ c.from-residual-in-err-word.ensures.1 (behind_room _ at.In-ok-room ∙ no_word _ _ (spot_of c.number.new.self) _ c.in-err-word.ensures.value)
+pub returns-in_err-word : goal.returns-in_err-word
+returns-in_err-word c =
+    let at = goal.at.returns-in_err-word c in
+    refused _ c.from_residual-in_err-word.ensures.1 (behind_room _ at.In_ok-room ∙ no_word _ _ (spot_of c.number.new.self) _ c.in_err-word.ensures.value)
 
-pub returns-in-err-figure : goal.returns-in-err-figure
-returns-in-err-figure c =
-    let at = goal.at.returns-in-err-figure c in
-    refused _ c.from-residual-in-err-figure.ensures.1 (behind_room _ at.In-ok-room ∙ behind_word _ at.In-ok-word ∙ no_number _ (spot_of c.word.new.self) _ c.in-err-figure.ensures.value)
+pub returns-in_err-figure : goal.returns-in_err-figure
+returns-in_err-figure c =
+    let at = goal.at.returns-in_err-figure c in
+    refused _ c.from_residual-in_err-figure.ensures.1 (behind_room _ at.In_ok-room ∙ behind_word _ at.In_ok-word ∙ no_number _ (spot_of c.word.new.self) _ c.in_err-figure.ensures.value)
 
-pub returns-in-err-word-2 : goal.returns-in-err-word-2
-returns-in-err-word-2 c =
-    let at = goal.at.returns-in-err-word-2 c in
-    refused _ c.from-residual-in-err-word-2.ensures.1
-    (behind_room _ at.In-ok-room ∙ behind_word _ at.In-ok-word ∙ behind_figure _ at.In-ok-figure ∙ no_word _ _ (spot_of c.number-2.new.self) _ c.in-err-word-2.ensures.value)
+pub returns-in_err-word-2 : goal.returns-in_err-word-2
+returns-in_err-word-2 c =
+    let at = goal.at.returns-in_err-word-2 c in
+    refused _ c.from_residual-in_err-word-2.ensures.1
+    (behind_room _ at.In_ok-room ∙ behind_word _ at.In_ok-word ∙ behind_figure _ at.In_ok-figure ∙ no_word _ _ (spot_of c.number-2.new.self) _ c.in_err-word-2.ensures.value)
 
 -- with the word that the code has for the ending
 behind_figures : (c : After-word-3) → (f : ℕ → ℕ → Ending → Event) → said (number (λ r. word (codes " ") (number (λ m. word (codes " ") (either (word (codes "book)") (done (f r.value m.value Book))) (word (codes "withdraw)") (done (f r.value m.value Withdraw)))))))) c.args.cursor
-    ≡ said (word c.word-3.result.now (done (f (figure_of c.in-ok-room.room).value (figure_of c.in-ok-figure.figure).value c.next_ending.result))) c.word-2.new.self
+    ≡ said (word c.word-3.result.now (done (f (figure_of c.in_ok-room.room).value (figure_of c.in_ok-figure.figure).value c.next-ending.result))) c.word-2.new.self
 behind_figures c f =
-    let g : Ending → Event = f (figure_of c.in-ok-room.room).value (figure_of c.in-ok-figure.figure).value in
-    let ending : c.next_ending.result ≡ next_ending (spot_of c.word-2.new.self).rest = c.next_ending.ensures ∙ ap next_ending c.rest.ensures in
-    on_number _ c.args.cursor c.number.new.self _ c.in-ok-room.ensures.value c.number.ensures.after
-    ∙ on_word _ _ c.number.new.self c.word.new.self _ c.in-ok-word.ensures.value c.word.ensures.after
-    ∙ on_number _ c.word.new.self c.number-2.new.self _ c.in-ok-figure.ensures.value c.number-2.ensures.after
-    ∙ on_word _ _ c.number-2.new.self c.word-2.new.self _ c.in-ok-word-2.ensures.value c.word-2.ensures.after
+    let g : Ending → Event = f (figure_of c.in_ok-room.room).value (figure_of c.in_ok-figure.figure).value in
+    let ending : c.next-ending.result ≡ next_ending (spot_of c.word-2.new.self).rest = c.next-ending.ensures ∙ ap next_ending c.rest.ensures in
+    on_number _ c.args.cursor c.number.new.self _ c.in_ok-room.ensures.value c.number.ensures.after
+    ∙ on_word _ _ c.number.new.self c.word.new.self _ c.in_ok-word.ensures.value c.word.ensures.after
+    ∙ on_number _ c.word.new.self c.number-2.new.self _ c.in_ok-figure.ensures.value c.number-2.ensures.after
+    ∙ on_word _ _ c.number-2.new.self c.word-2.new.self _ c.in_ok-word-2.ensures.value c.word-2.ensures.after
     ∙ one_ending g c.word-2.new.self
     ∙ sym (λ i. said (word ((c.word-3.ensures ∙ ap ending_word ending) i) (done (g (ending i)))) c.word-2.new.self)
 
-pub returns-in-err-word-3 : goal.returns-in-err-word-3
-returns-in-err-word-3 c =
-    refused _ c.from-residual-in-err-word-3.ensures.1
-    (behind_figures (goal.at.returns-in-err-word-3 c).After-word-3 (λ r m e. Correct r m e) ∙ no_word _ _ (spot_of c.word-2.new.self) _ c.in-err-word-3.ensures.value)
+pub returns-in_err-word-3 : goal.returns-in_err-word-3
+returns-in_err-word-3 c =
+    refused _ c.from_residual-in_err-word-3.ensures.1
+    (behind_figures (goal.at.returns-in_err-word-3 c).After-word-3 (λ r m e. Correct r m e) ∙ no_word _ _ (spot_of c.word-2.new.self) _ c.in_err-word-3.ensures.value)
 
 pub returns : goal.returns
 returns c =
-    c.at-end.ensures
+    c.at_end.ensures
     ∙ ended _ (spot_of c.word-4.new.self)
     ∙ ap (λ (e : Event). said (done e) c.word-4.new.self) c.correction.ensures
     ∙ sym (behind_figures (goal.at.returns c).After-word-3 (λ r m e. Correct r m e)
-    ∙ on_word _ _ c.word-2.new.self c.word-4.new.self _ c.in-ok-word-3.ensures.value c.word-4.ensures.after)
+    ∙ on_word _ _ c.word-2.new.self c.word-4.new.self _ c.in_ok-word-3.ensures.value c.word-4.ensures.after)

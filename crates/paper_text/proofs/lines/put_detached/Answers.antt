@@ -4,6 +4,6 @@ use Rattle.paper_text.proofs.lines.put_detached.Goals as goal
 
 pub returns : goal.returns
 returns c = record {
-  put = then c.put-word-at.ensures (then c.put-number-at.ensures.put c.put-framed.ensures.put);
+  put = then c.put_word-at.ensures (then c.put_number-at.ensures.put c.put_framed.ensures.put);
   near = omega arith;
 }

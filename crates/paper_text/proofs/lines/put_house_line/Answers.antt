@@ -5,6 +5,6 @@ use Rattle.paper_text.proofs.lines.put_house_line.Goals as goal
 
 pub returns : goal.returns
 returns c = record {
-  put = framed_then house_word (decimal c.args.number) opening c.put-framed-at.ensures.put c.put-method.ensures.put;
+  put = framed_then house_word (decimal c.args.number) opening c.put_framed-at.ensures.put c.put_method.ensures.put;
   near = omega arith;
 }

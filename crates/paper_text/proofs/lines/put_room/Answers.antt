@@ -5,6 +5,6 @@ use Rattle.paper_text.proofs.lines.put_room.Goals as goal
 
 pub returns : goal.returns
 returns c = record {
-  put = framed_then room_word (decimal c.args.room.number) opening c.put-framed-at.ensures.put c.put-kind.ensures.put;
+  put = framed_then room_word (decimal c.args.room.number) opening c.put_framed-at.ensures.put c.put_kind.ensures.put;
   near = omega arith;
 }

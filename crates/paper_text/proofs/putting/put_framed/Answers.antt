@@ -4,6 +4,6 @@ use Rattle.paper_text.proofs.putting.put_framed.Goals as goal
 
 pub returns : goal.returns
 returns c = record {
-  put = then c.put-word-at.ensures (then c.put-number-at.ensures.put c.put-word.ensures);
+  put = then c.put_word-at.ensures (then c.put_number-at.ensures.put c.put_word.ensures);
   near = omega arith;
 }

@@ -3,7 +3,7 @@ use Rattle.printing.proofs.entries.print_lines.Goals as goal
 
 pub loop-room-preserved : goal.loop-room-preserved
 loop-room-preserved g c =
-    line_printed _ _ _ c.in-ok-print.ensures (to_come_more g.E.Entry.line _ _ _ _ c.in-Some.is c.next.ensures.steps) c.loop-room.invariant
+    line_printed _ _ _ c.in_ok-print.ensures (to_come_more g.E.Entry.line _ _ _ _ c.in-Some.is c.next.ensures.steps) c.loop-room.invariant
 
 pub returns : goal.returns
 returns g c =

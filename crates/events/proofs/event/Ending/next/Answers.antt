@@ -6,5 +6,5 @@ some : (bs : List ℕ) → get_or bs 0 0 ≡ 98 → 0 < length bs
 some [] e = absurd (omega (arith, e))
 some (b ∷ bs) e = omega arith
 
-pub returns-in-default : goal.returns-in-default
-returns-in-default c = sym (cond-false _ _ _ (ne_eqb _ 98 (λ e. let long = some c.args.rest.now e in omega (arith, ltb-true, ltb-false))))
+pub returns-in_default : goal.returns-in_default
+returns-in_default c = sym (cond-false _ _ _ (ne_eqb _ 98 (λ e. let long = some c.args.rest.now e in omega (arith, ltb-true, ltb-false))))
