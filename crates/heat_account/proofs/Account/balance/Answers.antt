@@ -16,6 +16,6 @@ returns g c =
     let call = Balance c.args.room in
     let shares = g.R.Sharing.shares a.rule in
     record {
-      value = c.look-up-balance.ensures;
-      ledger = carries shares (g.met.R.Sharing.fair a.rule) a.house s s call (answer_of Balanced c.look-up-balance.result) (ap (answer_of Balanced) c.look-up-balance.ensures ∙ by_mapped (answer_of Balanced) (judged plan s call) _ _) (by_kept (judged plan s call) s);
+      value = c.look_up_balance.ensures;
+      ledger = carries shares (g.met.R.Sharing.fair a.rule) a.house s s call (answer_of Balanced c.look_up_balance.result) (ap (answer_of Balanced) c.look_up_balance.ensures ∙ by_mapped (answer_of Balanced) (judged plan s call) _ _) (by_kept (judged plan s call) s);
     }

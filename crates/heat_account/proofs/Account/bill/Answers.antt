@@ -16,6 +16,6 @@ returns g c =
     let call = Bill c.args.room in
     let shares = g.R.Sharing.shares a.rule in
     record {
-      value = c.look-up-bill.ensures;
-      ledger = carries shares (g.met.R.Sharing.fair a.rule) a.house s s call (answer_of (λ (b : ℕ × ℕ). Billed b.0 b.1) c.look-up-bill.result) (ap (answer_of (λ (b : ℕ × ℕ). Billed b.0 b.1)) c.look-up-bill.ensures ∙ by_mapped (answer_of (λ (b : ℕ × ℕ). Billed b.0 b.1)) (judged plan s call) _ _) (by_kept (judged plan s call) s);
+      value = c.look_up_bill.ensures;
+      ledger = carries shares (g.met.R.Sharing.fair a.rule) a.house s s call (answer_of (λ (b : ℕ × ℕ). Billed b.0 b.1) c.look_up_bill.result) (ap (answer_of (λ (b : ℕ × ℕ). Billed b.0 b.1)) c.look_up_bill.ensures ∙ by_mapped (answer_of (λ (b : ℕ × ℕ). Billed b.0 b.1)) (judged plan s call) _ _) (by_kept (judged plan s call) s);
     }

@@ -9,4 +9,4 @@ returns g c =
     let s = state_of a.tables in
     let shares = g.R.Sharing.shares a.rule in
     let fair = g.met.R.Sharing.fair a.rule in
-    record { value = c.tell-changes.ensures; moves = moves shares fair a.house s (holds a); evens = evens shares fair a.house s }
+    record { value = c.tell_changes.ensures; moves = moves shares fair a.house s (holds a); evens = evens shares fair a.house s }

@@ -17,7 +17,7 @@ unreachable-requires g c =
     let plan = plan_of a.house in
     let s = state_of a.tables in
     let call = Close c.args.total c.args.common in
-    c.in-default.not-Closed (s.closed + 1) (accepted_answer (judged plan s call) (told plan s call) (λ reason. fault_of reason Nowhere) c.perform.result c.perform.ensures.value (Closed (s.closed + 1)) (λ i. refl) c.in-default.not-Refused)
+    c.in_default.not-Closed (s.closed + 1) (accepted_answer (judged plan s call) (told plan s call) (λ reason. fault_of reason Nowhere) c.perform.result c.perform.ensures.value (Closed (s.closed + 1)) (λ i. refl) c.in_default.not-Refused)
 
 pub returns-in-Refused : goal.returns-in-Refused
 returns-in-Refused g c =

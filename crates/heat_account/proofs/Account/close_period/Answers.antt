@@ -32,8 +32,8 @@ close-requires g c =
       room = low_balance plan s (holds a);
     }
 
-pub invariant-of-self : goal.invariant-of-self
-invariant-of-self g c =
+pub invariant_of-self : goal.invariant_of-self
+invariant_of-self g c =
     let a = c.args.self.now in
     let plan = plan_of a.house in
     let s = state_of a.tables in
@@ -45,7 +45,7 @@ invariant-of-self g c =
     let ok = workable_refusal plan p w.0 in
     let small = refusal_small plan.method (counted plan.rooms s.readings) c.args.total c.args.common w.0 in
     let h = subst (Holds plan) (sym c.close.ensures) (holds_close plan s (holds a) p bs (bills_long shares fair a.house p ok bs w.1) (bills_small shares fair a.house p ok bs w.1 small.0) c.requires (omega arith) small.0 small.1 refl) in
-    (h.long, (h.few, (h.small, (h.bounded, (h.clear, tt)))))
+    record { long = h.long; few = h.few; small = h.small; bounded = h.bounded; clear = h.clear }
 
 pub returns-in-Err : goal.returns-in-Err
 returns-in-Err g c =

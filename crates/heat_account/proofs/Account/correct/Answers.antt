@@ -17,4 +17,4 @@ unreachable-requires g c =
     let plan = plan_of a.house in
     let s = state_of a.tables in
     let call = Correct c.args.room c.args.reading in
-    c.in-default.not-Corrected plan.number s.closed (accepted_answer (judged plan s call) (told plan s call) (λ reason. fault_of reason (Room c.args.room)) c.perform.result c.perform.ensures.value (Corrected plan.number s.closed) (λ i. refl) c.in-default.not-Refused)
+    c.in_default.not-Corrected plan.number s.closed (accepted_answer (judged plan s call) (told plan s call) (λ reason. fault_of reason (Room c.args.room)) c.perform.result c.perform.ensures.value (Corrected plan.number s.closed) (λ i. refl) c.in_default.not-Refused)

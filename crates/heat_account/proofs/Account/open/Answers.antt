@@ -5,12 +5,12 @@ use Rattle.heat_account.proofs.KeptLaws.{Holds, holds_first}
 use Rattle.heat_account.proofs.Carrying.{goes_first}
 use Rattle.heat_account.proofs.Account.open.Goals as goal
 
-pub invariant-of-result : goal.invariant-of-result
-invariant-of-result g c =
+pub invariant_of-result : goal.invariant_of-result
+invariant_of-result g c =
     let plan = plan_of c.args.house in
     let is = c.of-tables.ensures in
     let h = subst (Holds plan) (sym is) (holds_first plan) in
-    (h.long, (h.few, (h.small, (h.bounded, (h.clear, tt)))))
+    record { long = h.long; few = h.few; small = h.small; bounded = h.bounded; clear = h.clear }
 
 pub returns : goal.returns
 returns g c =

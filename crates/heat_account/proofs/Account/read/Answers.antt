@@ -26,16 +26,16 @@ returns-in-Refused g c =
       ledger = c.in-Refused.ensures.ledger;
     }
 
-pub returns-in-default : goal.returns-in-default
-returns-in-default g c =
+pub returns-in_default : goal.returns-in_default
+returns-in_default g c =
     let a = c.args.self.now in
     let plan = plan_of a.house in
     let s = state_of a.tables in
     let call = Read c.args.room c.args.reading in
     let p = c.perform.ensures in
-    let done : c.perform.result ≡ Done = accepted_answer (judged plan s call) (told plan s call) (λ reason. fault_of reason (Room c.args.room)) c.perform.result p.value Done (λ i. refl) c.in-default.not-Refused in
+    let done : c.perform.result ≡ Done = accepted_answer (judged plan s call) (told plan s call) (λ reason. fault_of reason (Room c.args.room)) c.perform.result p.value Done (λ i. refl) c.in_default.not-Refused in
     record {
-      value = accepted_result (judged plan s call) (told plan s call) (λ reason. fault_of reason (Room c.args.room)) c.perform.result p.value (tt {0}) c.in-default.not-Refused;
+      value = accepted_result (judged plan s call) (told plan s call) (λ reason. fault_of reason (Room c.args.room)) c.perform.result p.value (tt {0}) c.in_default.not-Refused;
       after = p.after;
       house = p.house;
       rule = p.rule;

@@ -20,7 +20,7 @@ loop-i-preserved c =
     let new = c.args.new.now in
     let i = c.loop-i.i in
     let now = table_items c.loop-i.changes in
-    let here = to_z-of_z w64 c.change-between.result (record { sfits = c.change-between.type-inv }) ∙ c.change-between.ensures ∙ sym (each_change_at old new i c.requires.long) in
+    let here = to_z-of_z w64 c.change_between.result (record { sfits = c.change_between.type_inv }) ∙ c.change_between.ensures ∙ sym (each_change_at old new i c.requires.long) in
     merged_written (λ _ (z : ℤ). z) (replicate (length old) (pos 0)) (each_change old new) i now now c.loop-i.invariant refl (table_items c.set.new.self) (pos 0) (pos 0) (omega (arith, length_each_change old new c.requires.long))
     (c.set.ensures.after ∙ ap (λ (z : ℤ). set now i z) here)
 

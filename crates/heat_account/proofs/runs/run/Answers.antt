@@ -25,19 +25,19 @@ loop-i-preserved g c =
     let plan = plan_of start.house in
     let account = c.loop-i.account in
     let s = state_of account.tables in
-    let s' = state_of c.perform-into.new.self.tables in
+    let s' = state_of c.perform_into.new.self.tables in
     let calls = c.args.calls.now in
     let i = c.loop-i.i in
     let h = c.loop-i-test.true in
     let inv = c.loop-i.invariant in
-    let e = c.perform-into.ensures in
+    let e = c.perform_into.ensures in
     let call = get_or calls i _ in
     let moved : s' ≡ after shares plan s call =
     e.after ∙ ap (λ r. after (g.R.Sharing.shares r) (plan_of account.house) s call) inv.1 ∙ ap (λ (v : House). after shares (plan_of v) s call) inv.0 in
     let told = ap (λ (v : House). answer (plan_of v) s call) inv.0 ∙ ap (λ (v : State). answer plan v call) inv.2 in
     let stands : Stands shares plan s' (take (i + 1) calls) =
     subst (λ (v : List Call). Stands shares plan s' v) (sym (take_more calls i _ h)) (stands_after shares plan s s' (take i calls) call inv.2 moved) in
-    (e.house ∙ inv.0, e.rule ∙ inv.1, stands, answer_written shares plan calls i _ h c.loop-i.answers c.args.answers.now inv.3 (answer (plan_of account.house) s call) told c.perform-into.new.answers e.answer)
+    (e.house ∙ inv.0, e.rule ∙ inv.1, stands, answer_written shares plan calls i _ h c.loop-i.answers c.args.answers.now inv.3 (answer (plan_of account.house) s call) told c.perform_into.new.answers e.answer)
 
 pub returns : goal.returns
 returns g c =

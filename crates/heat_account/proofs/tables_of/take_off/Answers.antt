@@ -8,14 +8,14 @@ use Rattle.heat_account.proofs.tables_of.take_off.Goals as goal
 pub loop-i-init : goal.loop-i-init
 loop-i-init c = sym (merged_none _ (table_items c.args.balances.now))
 
-pub bounds-as-slice-i : goal.bounds-as-slice-i
-bounds-as-slice-i c = omega (arith, ap length (c.as-slice.ensures ∙ c.loop-i.invariant), length_merged (λ x (b : ℕ × ℕ). ◌-◌ x (figures b)) (table_items c.args.balances.now) (take c.loop-i.i c.args.bills.now))
+pub bounds-as_slice-i : goal.bounds-as_slice-i
+bounds-as_slice-i c = omega (arith, ap length (c.as_slice.ensures ∙ c.loop-i.invariant), length_merged (λ x (b : ℕ × ℕ). ◌-◌ x (figures b)) (table_items c.args.balances.now) (take c.loop-i.i c.args.bills.now))
 
-pub overflow-sub-as-slice : goal.overflow-sub-as-slice
-overflow-sub-as-slice c = omega (arith, merged_read (λ x (b : ℕ × ℕ). ◌-◌ x (figures b)) (table_items c.args.balances.now) c.args.bills.now c.loop-i.i (table_items c.loop-i.balances) c.as-slice.result.now c.loop-i.invariant c.as-slice.ensures 0, c.requires.covered c.loop-i.i)
+pub overflow_sub-as_slice : goal.overflow_sub-as_slice
+overflow_sub-as_slice c = omega (arith, merged_read (λ x (b : ℕ × ℕ). ◌-◌ x (figures b)) (table_items c.args.balances.now) c.args.bills.now c.loop-i.i (table_items c.loop-i.balances) c.as_slice.result.now c.loop-i.invariant c.as_slice.ensures 0, c.requires.covered c.loop-i.i)
 
 pub loop-i-preserved : goal.loop-i-preserved
-loop-i-preserved c = merged_written (λ x (b : ℕ × ℕ). ◌-◌ x (figures b)) (table_items c.args.balances.now) c.args.bills.now c.loop-i.i (table_items c.loop-i.balances) c.as-slice.result.now c.loop-i.invariant c.as-slice.ensures (table_items c.set.new.self) 0 (0, 0) c.loop-i-test.true c.set.ensures.after
+loop-i-preserved c = merged_written (λ x (b : ℕ × ℕ). ◌-◌ x (figures b)) (table_items c.args.balances.now) c.args.bills.now c.loop-i.i (table_items c.loop-i.balances) c.as_slice.result.now c.loop-i.invariant c.as_slice.ensures (table_items c.set.new.self) 0 (0, 0) c.loop-i-test.true c.set.ensures.after
 
 pub returns : goal.returns
 returns c =

@@ -6,9 +6,9 @@ use Rattle.paper.proofs.figures.open_line.Goals as goal
 
 pub returns : goal.returns
 returns c =
-    let w = c.in-ok-word.ensures in
-    let n = c.in-ok-number.ensures in
-    let v = c.in-ok-word-2.ensures in
+    let w = c.in_ok-word.ensures in
+    let n = c.in_ok-number.ensures in
+    let v = c.in_ok-word-2.ensures in
     let s = spot_of c.args.cursor.now in
     let s1 = spot_of c.word.new.self in
     let all = opened_ok s s1 (spot_of c.number.new.self) (spot_of c.word-2.new.self) c.args.word.now _ _ _ w.value w.after n.value n.after v.value v.after in

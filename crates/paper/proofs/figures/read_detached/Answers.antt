@@ -9,36 +9,36 @@ use Rattle.paper.proofs.figures.read_detached.Goals as goal
 nothing : Figure
 nothing = record { value = 0; column = 0 }
 
-pub returns-in-err-word : goal.returns-in-err-word
-returns-in-err-word c =
-    let p = err_from_is_err_and c.from-residual.result c.from-residual.ensures.1 in
+pub returns-in_err-word : goal.returns-in_err-word
+returns-in_err-word c =
+    let p = err_from_is_err_and c.from_residual.result c.from_residual.ensures.1 in
     let s = spot_of c.args.cursor in
     record {
-      value = pair_exit _ _ p ∙ sym (detached_word_off s s s nothing nothing _ c.in-err-word.ensures.value);
+      value = pair_exit _ _ p ∙ sym (detached_word_off s s s nothing nothing _ c.in_err-word.ensures.value);
       word = made_exit _ _ _ p.1;
       area = made_exit _ _ _ p.1;
       pipe = made_exit _ _ _ p.1;
     }
 
-pub returns-in-err-area : goal.returns-in-err-area
-returns-in-err-area c =
-    let p = err_from_is_err_and c.from-residual-in-err-area.result c.from-residual-in-err-area.ensures.1 in
-    let w = c.in-ok-word.ensures in
+pub returns-in_err-area : goal.returns-in_err-area
+returns-in_err-area c =
+    let p = err_from_is_err_and c.from_residual-in_err-area.result c.from_residual-in_err-area.ensures.1 in
+    let w = c.in_ok-word.ensures in
     let s = spot_of c.args.cursor in
     record {
-      value = pair_exit _ _ p ∙ sym (detached_area_off s (spot_of c.word.new.self) s _ nothing w.value w.after _ c.in-err-area.ensures.value);
+      value = pair_exit _ _ p ∙ sym (detached_area_off s (spot_of c.word.new.self) s _ nothing w.value w.after _ c.in_err-area.ensures.value);
       word = made_exit _ _ _ p.1;
       area = made_exit _ _ _ p.1;
       pipe = made_exit _ _ _ p.1;
     }
 
-pub returns-in-err-pipe : goal.returns-in-err-pipe
-returns-in-err-pipe c =
-    let p = err_from_is_err_and c.from-residual-in-err-pipe.result c.from-residual-in-err-pipe.ensures.1 in
-    let w = c.in-ok-word.ensures in
-    let n = c.in-ok-area.ensures in
+pub returns-in_err-pipe : goal.returns-in_err-pipe
+returns-in_err-pipe c =
+    let p = err_from_is_err_and c.from_residual-in_err-pipe.result c.from_residual-in_err-pipe.ensures.1 in
+    let w = c.in_ok-word.ensures in
+    let n = c.in_ok-area.ensures in
     record {
-      value = pair_exit _ _ p ∙ sym (detached_then (spot_of c.args.cursor) (spot_of c.word.new.self) (spot_of c.number.new.self) _ _ w.value w.after n.value n.after _ c.in-err-pipe.ensures.value);
+      value = pair_exit _ _ p ∙ sym (detached_then (spot_of c.args.cursor) (spot_of c.word.new.self) (spot_of c.number.new.self) _ _ w.value w.after n.value n.after _ c.in_err-pipe.ensures.value);
       word = made_exit _ _ _ p.1;
       area = made_exit _ _ _ p.1;
       pipe = made_exit _ _ _ p.1;
@@ -46,9 +46,9 @@ returns-in-err-pipe c =
 
 pub returns : goal.returns
 returns c =
-    let w = c.in-ok-word.ensures in
-    let n = c.in-ok-area.ensures in
-    let q = c.in-ok-pipe.ensures in
+    let w = c.in_ok-word.ensures in
+    let n = c.in_ok-area.ensures in
+    let q = c.in_ok-pipe.ensures in
     let s = spot_of c.args.cursor in
     let s1 = spot_of c.word.new.self in
     record {

@@ -17,8 +17,8 @@ written_back bs (Err fault) e = tt
 
 pub returns : goal.returns
 returns c = record {
-  value = c.read-lines.ensures;
-  written = written_back c.args.paper.now c.read-lines.result c.read-lines.ensures;
+  value = c.read_lines.ensures;
+  written = written_back c.args.paper.now c.read_lines.result c.read_lines.ensures;
   accepted = λ plan. lawful_accepted plan.number plan.method plan.rooms;
   lawful = record {
     house = λ line bs. followed (house_form line) (house_sound line) 1 bs;
