@@ -16,8 +16,8 @@ returns-in-Ok g c =
     let held = c.correct.new.self in
     let shares = g.R.Sharing.shares in
     let was = c.in-Ok.ensures in
-    let told = c.open-changes-changes in
-    let ended = c.end-correction in
+    let told = c.open_changes-changes in
+    let ended = c.end_correction in
     record {
       value = changes_shown (shares a.rule) (shares held.rule) (plan_of a.house) (plan_of held.house) (state_of a.tables) (state_of held.tables) c.args.room c.args.reading c.in-Ok.slip was.value was.after (ap shares was.rule) (ap plan_of was.house) (table_items told.result) told.ensures;
       after = correction_ended (shares a.rule) (shares held.rule) (plan_of a.house) (plan_of held.house) (state_of a.tables) (state_of held.tables) c.args.room c.args.reading c.in-Ok.slip was.value was.after (ap shares was.rule) (ap plan_of was.house) (state_of ended.new.account.tables) c.args.ending ended.ensures.after;

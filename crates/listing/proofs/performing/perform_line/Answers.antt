@@ -13,13 +13,13 @@ returns g c =
     let plan = plan_of a.house in
     let s = state_of a.tables in
     let shares = g.R.Sharing.shares a.rule in
-    let said = c.read-event.ensures in
-    let was = c.perform-or-refuse.ensures in
+    let said = c.read_event.ensures in
+    let was = c.perform_or_refuse.ensures in
     let after = was.after ∙ ap (line_after shares plan s) said in
     record {
-      value = subst (λ (v : Option Event). IfOk c.perform-or-refuse.result (λ _. string_bytes c.perform-or-refuse.new.out ≡ string_bytes c.args.out.now ++ line_printed shares plan s v)) said was.value;
+      value = subst (λ (v : Option Event). IfOk c.perform_or_refuse.result (λ _. string_bytes c.perform_or_refuse.new.out ≡ string_bytes c.args.out.now ++ line_printed shares plan s v)) said was.value;
       after = after;
       house = was.house;
       rule = was.rule;
-      ledger = line_goes shares (g.met.R.Sharing.fair a.rule) a.house s (state_of c.perform-or-refuse.new.account.tables) (event_of c.args.line.now) after;
+      ledger = line_goes shares (g.met.R.Sharing.fair a.rule) a.house s (state_of c.perform_or_refuse.new.account.tables) (event_of c.args.line.now) after;
     }
