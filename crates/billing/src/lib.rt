@@ -1,4 +1,6 @@
 // The bills of one period.
+#![tactic(auto)]
+
 mod claims;
 pub mod counting;
 mod floors;

@@ -1,4 +1,6 @@
 // The events of a season, each read from its line of text.
+#![tactic(auto)]
+
 pub mod event;
 mod items;
 pub mod reading;

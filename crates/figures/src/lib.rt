@@ -1,4 +1,6 @@
 // The worked figures, as one theorem over their table and as runs.
+#![tactic(auto)]
+
 ghost use Rattle.std.specs.Prelude.{◌≡◌, length};
 ghost use Rattle.std.specs.List.{AllByRecursion as All};
 ghost use Rattle.figures.specs.Table.{Holds, table};

@@ -1,11 +1,10 @@
 -- What reading an item gives, and how a form goes on behind it.
-use Rattle.std.proofs.Common.{◌≡◌, ℕ, ◌+◌, ◌<◌, ◌≤◌, Bool, true, false, cond, eqb, ltb, List, [], ◌∷◌, length, take, drop, Ok, Err, Result, sym, refl, ap, ◌∙◌, arith}
+use Rattle.std.proofs.Common.{◌≡◌, ℕ, ◌+◌, ◌<◌, ◌≤◌, Bool, true, false, cond, eqb, ltb, List, length, drop, Ok, Err, Result, sym, refl, ap, ◌∙◌, arith}
 use Rattle.std.specs.Str.Parse.{digits_value}
 use Rattle.std.proofs.lemmas.List.{drop-drop}
-use Rattle.std.proofs.lemmas.Bool.{cond-true, cond-false, lt-ltb, le-ltb, eq-eqb, ne_eqb}
+use Rattle.std.proofs.lemmas.Bool.{cond-true, cond-false, lt-ltb, le-ltb}
 use Rattle.forms.specs.Form.{Figure, Form, common, numeral_at, follow, word, number, done}
 use Rattle.forms.specs.Place.{Spot, onward, word_read, word_left, number_read, number_left, end_read, numeral}
-use Rattle.forms.proofs.Fronts.{common_full}
 
 ok_not_err : {X : Type 0} {x : X} {e : ℕ} → ◌≡◌ {A = Result X ℕ} (Ok x) (Err e) → ⊥
 ok_not_err h = let z : ◌≡◌ {A = ℕ} 0 1 = cc in omega arith

@@ -1,4 +1,6 @@
 // Lines of text that follow a form: words and numbers, each with its place.
+#![tactic(auto)]
+
 pub mod cursor;
 pub mod lines;
 mod reading;

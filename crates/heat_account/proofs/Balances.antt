@@ -1,11 +1,10 @@
 -- Balances and exact amounts over the closed periods.
-use Rattle.std.proofs.Common.{◌≡◌, ℕ, zero, suc, ◌+◌, ◌-◌, ◌*◌, ◌<◌, ◌≤◌, List, [], ◌∷◌, map, length, replicate, Some, None, sum_by, sum, Option, sym, refl, ap, ◌∙◌, subst, add-zero, add_comm, mul-zero, zero-add, zero-mul, mul-one, arith}
+use Rattle.std.proofs.Common.{◌≡◌, ℕ, zero, suc, ◌+◌, ◌-◌, ◌*◌, ◌<◌, List, [], ◌∷◌, map, length, replicate, None, sum_by, sum, Option, sym, refl, ap, ◌∙◌, subst, add-zero, add_comm, mul-zero, zero-add, zero-mul, mul-one, arith}
 use lib.ListN.{length-replicate}
 use Rattle.std.specs.List.{AllByRecursion as All}
-use Rattle.std.proofs.lemmas.List.Sums.{sum_by-cons, sum-map}
+use Rattle.std.proofs.lemmas.List.Sums.{sum_by-cons}
 use Rattle.sharing.specs.Rule.{Shares, Fair}
 use Rattle.house.specs.Plan.{Plan}
-use Rattle.billing.specs.declared.counting.CountedRoom.{CountedRoom}
 use Rattle.billing.specs.Counting.{counted}
 use Rattle.billing.specs.Pots.{beside, Both}
 use Rattle.billing.specs.Fraction.{Fraction, whole, plus, Within}

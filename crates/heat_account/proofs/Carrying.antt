@@ -8,12 +8,12 @@ use Rattle.fault.specs.declared.refusal.Fault.{Fault}
 use Rattle.heat_account.specs.declared.answer.Answer.{Answer}
 use Rattle.heat_account.specs.declared.answer.Answer.TheVariants.{Done, Closed, Refused}
 use Rattle.heat_account.specs.declared.call.Call.{Call}
-use Rattle.heat_account.specs.State.{Period, State, no_state}
+use Rattle.heat_account.specs.State.{State, no_state}
 use Rattle.fault.specs.declared.reason.Reason.{Reason}
 use Rattle.heat_account.specs.Judged.{by, returned, answer, after}
-use Rattle.heat_account.specs.Ledger.{figured, ledger_after, balances, Stands}
+use Rattle.heat_account.specs.Ledger.{ledger_after, Stands}
 use Rattle.heat_account.specs.Promises.{Promises}
-use Rattle.heat_account.specs.Carried.{Goes, Carried, Carries}
+use Rattle.heat_account.specs.Carried.{Goes, Carries}
 use Rattle.heat_account.proofs.Balances.{promised}
 use Rattle.heat_account.proofs.LedgerLaws.{sound_after, stands_after}
 use Rattle.billing.proofs.HouseLaws.{lawful_counted}

@@ -1,5 +1,5 @@
 -- What every account keeps true, through each change of its tables.
-use Rattle.std.proofs.Common.{◌≡◌, ℕ, ◌+◌, ◌-◌, ◌*◌, ◌<◌, ◌≤◌, Bool, true, false, not, ◌&&◌, eqb, ltb, List, [], ◌∷◌, map, length, get_or, set, replicate, is_some, Some, None, Ok, Err, Option, Result, sym, refl, ap, ◌∙◌, subst, arith, length-set}
+use Rattle.std.proofs.Common.{◌≡◌, ℕ, ◌+◌, ◌-◌, ◌<◌, ◌≤◌, true, false, not, eqb, ltb, List, map, length, get_or, is_some, Some, None, Ok, Err, Option, Result, sym, refl, ap, ◌∙◌, subst, arith}
 use lib.ListN.{length-replicate}
 use Rattle.std.proofs.lemmas.Bool.{ltb-true, lt-ltb, and_parts, and_from, not-true, eqb-false, ne_eqb, lt-leb, cond-false}
 use Rattle.fault.specs.declared.reason.Reason.{Reason}
@@ -14,7 +14,7 @@ use Rattle.billing.specs.Worked.{ruled}
 use Rattle.heat_account.specs.declared.stage.Stage.{Stage}
 use Rattle.heat_account.specs.declared.stage.Stage.TheVariants.{Taking, Correcting}
 use Rattle.heat_account.specs.declared.call.Call.TheVariants.{Close}
-use Rattle.heat_account.specs.State.{Period, State, period_bills, reread, billed, unbilled, no_state, with_reading, with_period, with_stage, with_amended}
+use Rattle.heat_account.specs.State.{Period, State, period_bills, unbilled, no_state, with_period, with_stage, with_amended}
 use Rattle.heat_account.specs.Judged.{unamendable, amend_of, meter_of, and_then, correcting, judged}
 use Rattle.heat_account.proofs.LedgerLaws.{unless_ok, and_then_ok}
 use Rattle.heat_account.specs.Kept.{Long, Small, Bounded, stands, clear}

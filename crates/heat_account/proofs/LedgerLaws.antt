@@ -1,26 +1,24 @@
 -- The ledger: what every call keeps, and that an account goes with it.
-use Rattle.std.proofs.Common.{◌≡◌, ℕ, zero, suc, ◌+◌, ◌<◌, ◌≤◌, Bool, true, false, cond, not, ◌&&◌, eqb, ltb, leb, List, [], ◌∷◌, ◌++◌, length, set, replicate, Some, None, Ok, Err, fold, Option, Result, sym, refl, ap, ◌∙◌, subst, add-one, arith}
+use Rattle.std.proofs.Common.{◌≡◌, ℕ, suc, ◌<◌, ◌≤◌, Bool, true, false, cond, not, eqb, List, [], ◌∷◌, ◌++◌, length, replicate, Some, None, Ok, Err, fold, Option, Result, sym, refl, ap, ◌∙◌, subst, add-one, arith}
 use Rattle.std.specs.List.{AllByRecursion as All}
 use Rattle.std.proofs.lemmas.List.Sums.{fold_push}
 use Rattle.std.proofs.lemmas.Bool.{eq-eqb, and_parts, not-false, cond-false, or_from, le-ltb, eqb-false}
 use Rattle.fault.specs.declared.reason.Reason.{Reason}
-use Rattle.sharing.specs.Rule.{Shares, Fair}
+use Rattle.sharing.specs.Rule.{Shares}
 use Rattle.house.specs.Plan.{Plan}
 use Rattle.house.specs.declared.method.Method.{Method}
 use Rattle.billing.specs.declared.counting.CountedRoom.{CountedRoom}
 use Rattle.billing.specs.Counting.{counted}
-use Rattle.billing.specs.Period.{refusal, unworkable, given, Lawful}
+use Rattle.billing.specs.Period.{refusal, unworkable, given}
 use Rattle.billing.specs.Worked.{ruled}
-use Rattle.heat_account.specs.declared.stage.Stage.{Stage}
-use Rattle.heat_account.specs.declared.stage.Stage.TheVariants.{Taking, Correcting}
+use Rattle.heat_account.specs.declared.stage.Stage.TheVariants.{Taking}
 use Rattle.heat_account.specs.declared.call.Call.{Call}
 use Rattle.heat_account.specs.declared.call.Call.TheVariants.{Read, Close, Correct, Book, Withdraw, Bill, Balance}
-use Rattle.heat_account.specs.State.{Period, State, period_bills, reread, billed, moved_on, corrected, with_amended}
+use Rattle.heat_account.specs.State.{Period, State, period_bills, reread, moved_on, corrected, with_amended}
 use Rattle.heat_account.specs.Judged.{unless, and_then, correcting, unamendable, fits, meter_of, judged, by, after}
 use Rattle.heat_account.specs.Ledger.{Correction, Ledger, empty, latest, amended, booked, noted, balances, stage_of, figured, step, ledger_after, Stands}
-use Rattle.heat_account.specs.Promises.{Promises}
 use Rattle.billing.proofs.HouseLaws.{refusal_workable}
-use Rattle.heat_account.proofs.Balances.{Workable, rebilled_billed, promised}
+use Rattle.heat_account.proofs.Balances.{Workable, rebilled_billed}
 
 -- a correction is of the period last closed, which can be worked out again with it
 abbrev pub Correctable : Plan → List Period → Option Correction → Type 0

@@ -1,13 +1,12 @@
 -- A list of calls, one after the other.
-use Rattle.std.proofs.Common.{◌≡◌, ℕ, zero, suc, ◌+◌, ◌<◌, ◌≤◌, List, [], ◌∷◌, ◌++◌, length, get_or, take, set, fold, sym, refl, ap, ◌∙◌, arith}
+use Rattle.std.proofs.Common.{◌≡◌, ℕ, suc, ◌+◌, ◌<◌, List, [], ◌∷◌, ◌++◌, length, get_or, take, set, fold, sym, refl, ap, ◌∙◌, arith}
 use Rattle.std.proofs.lemmas.List.{take_more, length-take-le}
 use Rattle.sharing.specs.Rule.{Shares}
 use Rattle.house.specs.Plan.{Plan}
 use Rattle.heat_account.specs.declared.answer.Answer.{Answer}
 use Rattle.heat_account.specs.declared.call.Call.{Call}
-use Rattle.heat_account.specs.State.{State}
 use Rattle.heat_account.specs.Judged.{answer}
-use Rattle.heat_account.specs.Ledger.{Ledger, empty, figured, step, ledger_after, answers_from, Stands}
+use Rattle.heat_account.specs.Ledger.{Ledger, empty, figured, step, ledger_after, answers_from}
 use Rattle.heat_account.specs.Carried.{overlaid}
 
 -- one entry more over the front

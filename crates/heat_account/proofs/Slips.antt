@@ -1,5 +1,5 @@
 -- The account that handed a slip out takes it back.
-use Rattle.std.proofs.Common.{◌≡◌, ℕ, Bool, true, false, cond, not, ◌&&◌, eqb, Ok, Err, Result, sym, refl, ap, ◌∙◌, subst, arith}
+use Rattle.std.proofs.Common.{◌≡◌, ℕ, true, ◌&&◌, eqb, Ok, Err, Result, refl, ap, ◌∙◌, arith}
 use Rattle.std.proofs.lemmas.Bool.{eq-eqb}
 use Rattle.fault.specs.declared.reason.Reason.{Reason}
 use Rattle.fault.specs.declared.place.Place.TheVariants.{Room}
@@ -8,7 +8,6 @@ use Rattle.fault.specs.Numbers.{fault_of}
 use Rattle.sharing.specs.Rule.{Shares}
 use Rattle.house.specs.Plan.{Plan}
 use Rattle.heat_account.specs.declared.slip.Slip.{Slip}
-use Rattle.heat_account.specs.declared.call.Call.{Call}
 use Rattle.heat_account.specs.declared.call.Call.TheVariants.{Correct, Book, Withdraw}
 use Rattle.heat_account.specs.declared.stage.Stage.TheVariants.{Correcting}
 use Rattle.heat_account.specs.State.{State, moved_on, with_stage}

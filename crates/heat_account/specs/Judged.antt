@@ -1,5 +1,5 @@
 -- Which calls are refused, what is answered, and what the account then holds.
-use Rattle.std.specs.Prelude.{ℕ, ◌+◌, Bool, true, false, cond, not, ◌&&◌, List, [], ◌∷◌, Some, None, Ok, Err, Option, Result, ◌==◌, nat_le, nat_lt, slice_index, slice_index_or}
+use Rattle.std.specs.Prelude.{ℕ, ◌+◌, Bool, true, false, cond, not, ◌&&◌, List, [], ◌∷◌, Ok, Err, Option, Result, ◌==◌, nat_le, nat_lt, slice_index, slice_index_or}
 use Rattle.fault.specs.Numbers.{fault_of}
 use Rattle.fault.specs.declared.place.Place.{Place}
 use Rattle.fault.specs.declared.place.Place.TheVariants as places

@@ -1,5 +1,5 @@
 -- The ledger that the account answers by: fed the house, the rule and each call's arguments alone.
-use Rattle.std.specs.Prelude.{◌≡◌, ℕ, suc, cond, List, [], ◌∷◌, map, length, replicate, Some, None, fold, Option, ◌==◌, slice_set}
+use Rattle.std.specs.Prelude.{◌≡◌, ℕ, suc, cond, List, [], ◌∷◌, length, replicate, Some, None, fold, Option, ◌==◌, slice_set}
 use Rattle.sharing.specs.Rule.{Shares}
 use Rattle.house.specs.Plan.{Plan}
 use Rattle.heat_account.specs.declared.stage.Stage.{Stage}

@@ -8,9 +8,7 @@ use Rattle.billing.specs.Counting.{counted, read_sum}
 use Rattle.billing.specs.Pots.{Both}
 use Rattle.billing.specs.Fraction.{Fraction, whole, plus, Within}
 use Rattle.billing.specs.Period.{exact_amounts, floor, read_heats}
-use Rattle.heat_account.specs.declared.call.Call.{Call}
 use Rattle.heat_account.specs.State.{Period, period_bills}
-use Rattle.heat_account.specs.Ledger.{ledger_after}
 
 abbrev pub added : List Fraction → List Fraction → List Fraction
 added [] ys = []

@@ -1,5 +1,5 @@
 -- What an account holds, and what an accepted call makes of it.
-use Rattle.std.specs.Prelude.{ℕ, ◌+◌, ◌-◌, List, [], ◌∷◌, map, length, replicate, Some, None, Option, slice_set}
+use Rattle.std.specs.Prelude.{ℕ, ◌+◌, ◌-◌, List, map, length, replicate, Some, None, Option, slice_set}
 use Rattle.sharing.specs.Rule.{Shares}
 use Rattle.house.specs.Plan.{Plan}
 use Rattle.billing.specs.Counting.{counted}

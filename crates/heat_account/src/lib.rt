@@ -1,4 +1,6 @@
 // The heat account of one house under a sharing rule.
+#![tactic(auto)]
+
 ghost use Rattle.std.specs.Prelude.{◌≡◌, ◌≤◌, true};
 ghost use Rattle.house.specs.Houses.{plan_of};
 ghost use Rattle.heat_account.specs.Tables.{state_of};

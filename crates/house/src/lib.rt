@@ -1,4 +1,6 @@
 // A house: its method, and its rooms in the order in which they came.
+#![tactic(auto)]
+
 ghost use Rattle.std.specs.Prelude.{◌≡◌, true};
 ghost use Rattle.tables.specs.Held.{table_items};
 ghost use Rattle.house.specs.Plan.{lawful};

@@ -1,4 +1,6 @@
 // The program's input: a house paper, an empty line, and events.
+#![tactic(auto)]
+
 ghost use Rattle.std.specs.Prelude.{◌≡◌, ◌≤◌, true, length, drop};
 ghost use Rattle.input.specs.Parts.{before_blank, paper_part, event_part, first_event, other_events, unended, too_long};
 

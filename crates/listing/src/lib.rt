@@ -1,4 +1,6 @@
 // What each event of a season does to an account, and what is printed for it.
+#![tactic(auto)]
+
 mod correcting;
 pub mod performing;
 #[cfg(test)]

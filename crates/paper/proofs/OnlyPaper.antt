@@ -1,5 +1,5 @@
 -- A paper that is accepted is the one that its house has.
-use Rattle.std.proofs.Common.{◌≡◌, ℕ, ◌+◌, Bool, true, false, cond, not, eqb, ◌⊎◌, List, [], ◌∷◌, ◌++◌, length, Some, None, Ok, Err, decimal, Option, Result, sym, refl, ap, ◌∙◌, inl, inr, ⊎_elim, append_assoc, append-nil, arith}
+use Rattle.std.proofs.Common.{◌≡◌, ℕ, ◌+◌, Bool, true, false, cond, not, eqb, List, [], ◌∷◌, ◌++◌, length, Some, None, Ok, Err, decimal, Option, Result, sym, refl, ap, ◌∙◌, ⊎_elim, append_assoc, append-nil, arith}
 use Rattle.fault.specs.Numbers.{fault_of}
 use Rattle.fault.specs.declared.reason.Reason.{Reason}
 use Rattle.fault.specs.declared.reason.Reason.TheVariants.{NumberOutOfRange}
@@ -10,7 +10,7 @@ use Rattle.house.specs.declared.room.Kind.{Kind}
 use Rattle.house.specs.declared.room.Kind.TheVariants.{Metered, Plain, Detached}
 use Rattle.house.specs.declared.room.Room.{Room}
 use Rattle.house.specs.Plan.{Plan, bare, with_room, room_refusal, number_fits, method_fits}
-use Rattle.forms.specs.Form.{Figure, Form, follow}
+use Rattle.forms.specs.Form.{Figure, follow}
 use Rattle.forms.specs.Lawful.{Says}
 use Rattle.forms.specs.Lines.{onto, lines}
 use Rattle.forms.proofs.FollowLaws.{follow_says}

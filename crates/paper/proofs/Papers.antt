@@ -1,5 +1,5 @@
 -- A paper line by line.
-use Rattle.std.proofs.Common.{◌≡◌, ℕ, suc, ◌+◌, ◌-◌, ◌<◌, ◌≤◌, Bool, true, false, eqb, List, [], ◌∷◌, length, take, drop, Ok, Err, Result, sym, refl, ap, ◌∙◌, arith}
+use Rattle.std.proofs.Common.{◌≡◌, ℕ, ◌+◌, ◌-◌, ◌<◌, Bool, true, false, eqb, List, [], ◌∷◌, length, take, drop, Ok, Err, Result, sym, ap, ◌∙◌, arith}
 use native.Mathlib.Nat.{sub-zero}
 use Rattle.std.proofs.lemmas.List.{nil_from_length, take_rest}
 use Rattle.std.proofs.lemmas.Bool.{cond-false, ne_eqb, eqb-true, eqb-false}
@@ -12,7 +12,7 @@ use Rattle.forms.specs.Form.{follow}
 use Rattle.forms.specs.Lines.{lines, line_length}
 use Rattle.forms.proofs.LineLaws.{first_line}
 use Rattle.paper.specs.Lines.{house_form, room_form}
-use Rattle.paper.specs.Reading.{and_on, joined, headed, missing, rooms_read, lines_read, reading}
+use Rattle.paper.specs.Reading.{and_on, joined, headed, rooms_read, lines_read, reading}
 
 -- a text cut behind its first line, as the code cuts it
 module _ (bs line rest : List ℕ) (n : ℕ) (some : 0 < length bs) (is : n ≡ line_length bs) (front : line ≡ take (n - 0) bs) (behind : rest ≡ take (length bs - n) (drop n bs)) where

@@ -8,8 +8,6 @@ use Rattle.forms.specs.Form.{Figure, Form, follow, word, number, mark}
 use Rattle.forms.specs.Place.{Spot}
 use Rattle.forms.proofs.Walks.{follows}
 use Rattle.paper_text.specs.Text.{house_word, room_word, opening}
-use Rattle.paper.specs.declared.heading.Heading.{Heading}
-use Rattle.paper.specs.declared.room_line.RoomLine.{RoomLine}
 use Rattle.paper.specs.Items.{mapped, and_then, open_read, open_left}
 use Rattle.paper.specs.Lines.{method_form, kind_form, heading_of, room_of, house_form, room_form, stands}
 use Rattle.paper.proofs.Tails.{opened_line, open_line, methods, method_mapped, kinds, kind_mapped}

@@ -1,4 +1,6 @@
 // The paper of a house: its text form, read line by line.
+#![tactic(auto)]
+
 mod checking;
 mod figures;
 mod heading;

@@ -1,4 +1,6 @@
 // The paper of a house, written into the caller's buffer.
+#![tactic(auto)]
+
 ghost use Rattle.std.specs.Prelude.{◌≡◌, length};
 ghost use Rattle.house.specs.Houses.{plan_of};
 ghost use Rattle.paper_text.specs.Text.{paper_text, told, written};

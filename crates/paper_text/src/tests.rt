@@ -37,7 +37,7 @@ fn the_paper_stands_at_the_front(rt: HostRuntime) {
     assert_eq!(rt; paper_length(&house), 97);
     assert_eq!(rt; write_house(&house, &mut buffer), Ok(97));
     assert!(rt; &buffer[0..97] == PAPER);
-    assert!(rt; &buffer[97..100] == b"###");
+    assert!(rt; &buffer[97..100] == b"###".as_slice());
 }
 
 #[test]
@@ -45,7 +45,7 @@ fn just_its_length_is_enough(rt: HostRuntime) {
     let house = house_7(&rt);
     let mut buffer = [b'#'; 97];
     assert_eq!(rt; write_house(&house, &mut buffer), Ok(97));
-    assert!(rt; buffer == PAPER);
+    assert!(rt; buffer.as_slice() == PAPER);
 }
 
 #[test]
@@ -71,6 +71,7 @@ fn a_detached_room_has_its_pipe_figure(rt: HostRuntime) {
     let mut buffer = [b'#'; 64];
     assert_eq!(rt; write_house(&house, &mut buffer), Ok(60));
     assert!(rt;
-        &buffer[0..60] == b"(house 10 (stated 0))\n(room 999999 (detached 100000000 12))\n"
+        &buffer[0..60]
+            == b"(house 10 (stated 0))\n(room 999999 (detached 100000000 12))\n".as_slice()
     );
 }

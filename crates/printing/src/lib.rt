@@ -1,4 +1,6 @@
 // What the program prints, one form to a line.
+#![tactic(auto)]
+
 ghost use Rattle.std.specs.Prelude.{◌≡◌, ◌++◌, string_bytes, OnOk};
 ghost use Rattle.fault.specs.Numbers.{number};
 ghost use Rattle.printing.specs.Printed.{rule_line, done_line, refused_line, refused_paper_line, bills_text, changes_text, balances_text};

@@ -24,7 +24,7 @@ fn changes_while_correcting(rt: HostRuntime) -> Result<(), Fail> {
         house: 7,
         period: 1,
     });
-    assert!(rt; changes.as_slice() == [1, -15, 14]);
+    assert!(rt; changes.as_slice() == [1, -15, 14].as_slice());
     Ok(())
 }
 

@@ -31,25 +31,26 @@ const EIGHT_ROOMS: &[(Kind, u32)] = &[
 ];
 
 fn check_edge(rt: &impl Abort, edge: &Edge) -> Result<(), Fail> {
+    let total = edge.total;
     let mut account = open(5, edge.method, edge.rooms)?;
     for (room, reading) in edge.readings {
         account.read(*room, *reading)?;
     }
-    assert_eq!(rt; account.close(edge.total, edge.common), Ok(1));
+    assert_eq!(rt; account.close(total, edge.common), Ok(1), "total {total}");
     let mut sum = 0u64;
     let mut room = 0u32;
     for (own, common) in edge.bills {
         room = room.saturating_add(1);
-        assert_eq!(rt; account.bill(room), Ok((*own, *common)));
+        assert_eq!(rt; account.bill(room), Ok((*own, *common)), "total {total}");
         sum = sum.saturating_add(account.balance(room)?);
     }
-    assert_eq!(rt; sum, u64::from(edge.total));
+    assert_eq!(rt; sum, u64::from(total), "total {total}");
     Ok(())
 }
 
 fn check_edges(rt: &impl Abort, edges: &[Edge]) -> Result<(), Fail> {
     for edge in edges {
-        check_edge(rt, edge).note(format_args!("total {}", edge.total))?;
+        check_edge(rt, edge)?;
     }
     Ok(())
 }

@@ -1,8 +1,7 @@
 -- What follows from the laws of a sharing for every rule.
-use Rattle.std.proofs.Common.{◌≡◌, ℕ, zero, suc, ◌+◌, ◌*◌, ◌<◌, ◌≤◌, List, [], ◌∷◌, length, take, replicate, IfOk, Ok, Err, sum, Result, sym, refl, ap, ◌∙◌, subst, ⊎_elim, mul-le-mul_right, one-mul, mul-zero, le_of_mul-le-mul_right, arith}
-use Rattle.std.specs.List.{AllZip, AllByRecursion as All}
+use Rattle.std.proofs.Common.{◌≡◌, ℕ, zero, suc, ◌*◌, ◌<◌, ◌≤◌, List, [], ◌∷◌, length, take, replicate, IfOk, Ok, Err, sum, Result, sym, refl, ap, ◌∙◌, ⊎_elim, mul-le-mul_right, one-mul, mul-zero, arith}
+use Rattle.std.specs.List.{AllZip}
 use Rattle.std.proofs.ByRecursion.{All-from_get_or}
-use Rattle.std.proofs.lemmas.List.Sums.{get_or-le-sum_by}
 use Rattle.std.proofs.lemmas.Bool.{cases_lt}
 use Rattle.fault.specs.declared.refusal.Fault.{Fault}
 use Rattle.sharing.specs.Rule.{Shares, Near, Fair, Modest}

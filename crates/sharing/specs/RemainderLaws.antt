@@ -1,12 +1,11 @@
 -- The rule of the largest remainders keeps the laws of a sharing.
-use Rattle.std.specs.Prelude.{◌≡◌, ℕ, zero, suc, ◌+◌, ◌-◌, ◌*◌, ◌/◌, ◌%◌, ◌<◌, ◌≤◌, Bool, true, false, cond, ◌⊎◌, List, [], ◌∷◌, ◌++◌, map, length, take, replicate, sum, nat_lt, slice_index, refl}
+use Rattle.std.specs.Prelude.{◌≡◌, ℕ, zero, suc, ◌+◌, ◌-◌, ◌*◌, ◌/◌, ◌%◌, ◌<◌, ◌≤◌, ◌⊎◌, List, [], ◌∷◌, ◌++◌, length, take, replicate, sum, nat_lt, slice_index, refl}
 use Rattle.std.proofs.Common.{sym, ap, subst, ◌∙◌, inl, inr, ⊎_elim, mul-add, add-mul, div-add-mod', mod-lt, zero-mul, mul-zero, le_of_mul-le-mul_right, mul-le-mul_left, arith}
 use Rattle.std.proofs.Math.Nat.{zero-div, zero-mod, div-zero}
 use Rattle.std.proofs.lemmas.List.{map_more, length-map}
 use Rattle.std.proofs.lemmas.List.Sums.{sum_by_push, sum_by-take-le}
 use Rattle.std.specs.List.{AllZip}
 use Rattle.std.proofs.lemmas.Bool.{cases_lt, cases_order, le-ltb, lt-ltb, lt-leb, cond-true, cond-false}
-use Rattle.std.proofs.lemmas.Bool.Decides.{nat_tests}
 use Rattle.sharing.specs.Rule.{Fair, Near}
 use Rattle.sharing.specs.Remainders.{floors, rests, odd_units, added, shared_by, remainders}
 use Rattle.sharing.specs.Cutoff.{above, at_least, Cut, unit, spared, dealt}

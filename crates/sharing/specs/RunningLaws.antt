@@ -1,5 +1,5 @@
 -- The rule of the running sum keeps the laws of a sharing.
-use Rattle.std.specs.Prelude.{◌≡◌, ℕ, suc, ◌+◌, ◌-◌, ◌*◌, ◌/◌, ◌<◌, ◌≤◌, List, [], ◌∷◌, length, replicate, sum, refl}
+use Rattle.std.specs.Prelude.{◌≡◌, ℕ, suc, ◌+◌, ◌-◌, ◌*◌, ◌/◌, ◌<◌, List, [], ◌∷◌, length, replicate, sum, refl}
 use Rattle.std.proofs.Common.{sym, ap, ◌∙◌, mul-add, add-mul, div-mul-le_self, mul-div_cancel, mul-zero, zero-mul, add-zero, zero-add, arith}
 use Rattle.std.proofs.Math.Nat.{lt-div-mul-add, zero-div}
 use Rattle.std.specs.List.{AllZip}

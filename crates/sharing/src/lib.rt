@@ -1,4 +1,6 @@
 // Sharing a total of whole units among claimants by weight.
+#![tactic(auto)]
+
 pub mod paid;
 pub mod pot;
 pub mod remainders;

@@ -1,4 +1,6 @@
 // A list of bounded length over a fixed array, for code that never asks for memory.
+#![tactic(auto)]
+
 ghost use Rattle.std.specs.Prelude.{◌≡◌, ◌≤◌, length};
 
 mod methods;

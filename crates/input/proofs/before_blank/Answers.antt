@@ -1,4 +1,4 @@
-use Rattle.std.proofs.Common.{◌≡◌, Bool, false, ◌&&◌, eqb, get_or, sym, refl, ap, ◌∙◌, arith}
+use Rattle.std.proofs.Common.{◌≡◌, Bool, false, ◌&&◌, eqb, get_or, sym, ap, ◌∙◌, arith}
 use Rattle.input.proofs.Scans.{blank_here, blank_later, blank_all}
 use Rattle.input.proofs.before_blank.Goals as goal
 use Rattle.input.proofs.before_blank.Goals.{else-begins-via-then-begins+else-ends, else-begins-via-else-begins}

@@ -1,6 +1,4 @@
-use Rattle.std.proofs.Common.{◌≡◌, ℕ, ◌+◌, List, ◌∷◌, get_or, drop, None, Option, sym, ap, ◌∙◌, arith}
-use Rattle.std.proofs.lemmas.List.{at_drop_more, at_drop_all}
-use Rattle.billing.specs.declared.counting.CountedRoom.{CountedRoom}
+use Rattle.std.proofs.Common.{◌+◌, drop, arith}
 use Rattle.billing.specs.Counting.{counted}
 use Rattle.billing.proofs.Written.{write_more, write_all}
 use Rattle.billing.proofs.Counted.{counted_next, counted_none}

@@ -1,5 +1,4 @@
 use Rattle.tables.specs.Held.{table_items}
-use Rattle.billing.specs.Period.{bills}
 use Rattle.billing.proofs.PeriodLaws.{bills_made, bills_lawful}
 use Rattle.billing.proofs.period.bill_period.Goals as goal
 

@@ -1,4 +1,4 @@
-use Rattle.std.proofs.Common.{◌≡◌, ℕ, ◌+◌, List, ◌++◌, length, get_or, take, drop, set, refl, ap, ◌∙◌, arith, length-set}
+use Rattle.std.proofs.Common.{ℕ, ◌+◌, List, ◌++◌, length, get_or, take, drop, refl, ap, ◌∙◌, arith, length-set}
 use native.Mathlib.Nat.{min-eq_left}
 use lib.ListN.{length-replicate}
 use Rattle.tables.specs.Held.{table_items}

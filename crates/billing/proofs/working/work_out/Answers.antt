@@ -1,4 +1,4 @@
-use Rattle.std.proofs.Common.{◌≡◌, ℕ, List, None, Option, sym, ap, ◌∙◌, subst}
+use Rattle.std.proofs.Common.{◌≡◌, List, None, sym, ap, ◌∙◌, subst}
 use Rattle.house.specs.Houses.{plan_of}
 use Rattle.house.specs.declared.method.Method.{Method}
 use Rattle.house.specs.declared.room.Room.{Room}

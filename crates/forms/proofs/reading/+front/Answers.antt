@@ -1,4 +1,4 @@
-use Rattle.std.proofs.Common.{suc, ◌+◌, ap, ◌∙◌, arith, ltb-false, ltb-true}
+use Rattle.std.proofs.Common.{◌+◌, ap, ◌∙◌, arith, ltb-false, ltb-true}
 use Rattle.forms.proofs.Fronts.{common_on, common_off, length_tail}
 use Rattle.forms.proofs.reading.+front.Goals as goal
 

@@ -1,4 +1,4 @@
-use Rattle.std.proofs.Common.{◌≡◌, sym, refl, ap, ◌∙◌}
+use Rattle.std.proofs.Common.{sym, refl, ap, ◌∙◌}
 use Rattle.house.specs.Houses.{plan_of}
 use Rattle.heat_account.specs.declared.call.Call.{Call}
 use Rattle.heat_account.specs.declared.call.Call.TheVariants.{Bill}

@@ -1,8 +1,8 @@
-use Rattle.std.proofs.Common.{◌≡◌, ℕ, get_or, sym, refl, ap, ◌∙◌}
+use Rattle.std.proofs.Common.{ℕ, ap, ◌∙◌}
 use Rattle.house.specs.Houses.{plan_of}
 use Rattle.heat_account.specs.declared.answer.Answer.TheVariants.{Billed}
 use Rattle.heat_account.specs.declared.call.Call.TheVariants.{Bill}
-use Rattle.heat_account.specs.Judged.{judged, after}
+use Rattle.heat_account.specs.Judged.{judged}
 use Rattle.heat_account.specs.Carried.{answer_of}
 use Rattle.heat_account.specs.Tables.{state_of}
 use Rattle.heat_account.proofs.Carrying.{carries, by_mapped, by_kept}

@@ -1,4 +1,4 @@
-use Rattle.std.proofs.Common.{◌≡◌, Some, sym, refl, ◌∙◌, subst, length-set}
+use Rattle.std.proofs.Common.{Some, sym, refl, ◌∙◌, subst, length-set}
 use Rattle.tables.specs.Held.{table_items}
 use Rattle.house.specs.Houses.{plan_of}
 use Rattle.heat_account.specs.State.{reread}

@@ -1,4 +1,4 @@
-use Rattle.std.proofs.Common.{◌≡◌, ℕ, List, Err, Result, sym, refl, ap, ◌∙◌, subst, arith}
+use Rattle.std.proofs.Common.{◌≡◌, ℕ, Err, Result, sym, refl, ap, ◌∙◌, subst, arith}
 use Rattle.fault.specs.Numbers.{fault_of}
 use Rattle.fault.specs.declared.place.Place.TheVariants.{Nowhere}
 use Rattle.fault.specs.declared.reason.Reason.{Reason}

@@ -1,4 +1,4 @@
-use Rattle.std.proofs.Common.{◌≡◌, ℕ, ◌+◌, sym, refl, ap, ◌∙◌, subst}
+use Rattle.std.proofs.Common.{◌≡◌, sym, ap, ◌∙◌, subst}
 use Rattle.fault.specs.Numbers.{fault_of}
 use Rattle.house.specs.Houses.{plan_of}
 use Rattle.heat_account.specs.declared.answer.Answer.{Answer}

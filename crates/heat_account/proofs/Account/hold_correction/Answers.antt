@@ -1,9 +1,9 @@
-use Rattle.std.proofs.Common.{◌≡◌, sym, subst}
+use Rattle.std.proofs.Common.{sym, subst}
 use Rattle.house.specs.Houses.{plan_of}
 use Rattle.heat_account.specs.Tables.{state_of}
 use Rattle.heat_account.specs.declared.stage.Stage.TheVariants.{Correcting}
 use Rattle.heat_account.proofs.Held.{holds}
-use Rattle.heat_account.proofs.KeptLaws.{Holds, holds_stage, clear_from, amended_clear}
+use Rattle.heat_account.proofs.KeptLaws.{Holds, holds_stage, amended_clear}
 use Rattle.heat_account.proofs.Account.hold_correction.Goals as goal
 
 pub invariant_of-self : goal.invariant_of-self

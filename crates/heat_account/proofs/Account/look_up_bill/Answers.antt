@@ -1,4 +1,4 @@
-use Rattle.std.proofs.Common.{◌≡◌, ℕ, List, get_or, Ok, Err, Result, sym, ap, ◌∙◌}
+use Rattle.std.proofs.Common.{ℕ, List, get_or, Ok, Err, Result, ap, ◌∙◌}
 use Rattle.fault.specs.Numbers.{fault_of}
 use Rattle.fault.specs.declared.place.Place.TheVariants.{Room}
 use Rattle.fault.specs.declared.reason.Reason.{Reason}

@@ -1,4 +1,3 @@
-use Rattle.house.specs.Houses.{plan_of}
 use Rattle.heat_account.specs.Tables.{state_of}
 use Rattle.heat_account.proofs.Carrying.{carries}
 use Rattle.heat_account.proofs.Account.perform.Goals as goal

@@ -1,12 +1,12 @@
-use Rattle.std.proofs.Common.{◌≡◌, ℕ, ◌+◌, sym, refl, ap, ◌∙◌, subst}
+use Rattle.std.proofs.Common.{◌≡◌, refl, subst}
 use Rattle.fault.specs.Numbers.{fault_of}
 use Rattle.fault.specs.declared.place.Place.TheVariants.{Room}
 use Rattle.house.specs.Houses.{plan_of}
 use Rattle.heat_account.specs.declared.answer.Answer.{Answer}
 use Rattle.heat_account.specs.declared.answer.Answer.TheVariants.{Done}
 use Rattle.heat_account.specs.declared.call.Call.TheVariants.{Read}
-use Rattle.heat_account.specs.Judged.{judged, told, answer, after}
-use Rattle.heat_account.specs.Carried.{Carries, with_slip}
+use Rattle.heat_account.specs.Judged.{judged, told}
+use Rattle.heat_account.specs.Carried.{Carries}
 use Rattle.heat_account.specs.Tables.{state_of}
 use Rattle.heat_account.proofs.Carrying.{refused_result, accepted_result, accepted_answer, done_not_refused}
 use Rattle.heat_account.proofs.Account.read.Goals as goal

@@ -1,4 +1,4 @@
-use Rattle.std.proofs.Common.{◌≡◌, ℕ, ap, ◌∙◌}
+use Rattle.std.proofs.Common.{ℕ, ap, ◌∙◌}
 use Rattle.house.specs.Houses.{plan_of}
 use Rattle.heat_account.specs.declared.answer.Answer.TheVariants.{Billed}
 use Rattle.heat_account.specs.declared.call.Call.TheVariants.{Bill}

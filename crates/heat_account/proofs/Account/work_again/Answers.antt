@@ -1,9 +1,8 @@
-use Rattle.std.proofs.Common.{◌≡◌, ℕ, List, set, Some, Option, sym, ap, ◌∙◌}
+use Rattle.std.proofs.Common.{◌≡◌, ℕ, List, set, Some, Option, ap, ◌∙◌}
 use Rattle.house.specs.Houses.{plan_of}
 use Rattle.billing.specs.Counting.{counted}
 use Rattle.billing.specs.Period.{refusal, bills}
 use Rattle.billing.specs.Worked.{ruled}
-use Rattle.heat_account.specs.State.{period_bills}
 use Rattle.heat_account.specs.Tables.{state_of}
 use Rattle.heat_account.proofs.LedgerLaws.{small_refusal}
 use Rattle.heat_account.proofs.Account.work_again.Goals as goal

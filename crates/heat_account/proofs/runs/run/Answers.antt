@@ -1,4 +1,4 @@
-use Rattle.std.proofs.Common.{◌≡◌, ◌+◌, List, [], ◌∷◌, ◌++◌, length, get_or, take, sym, refl, ap, ◌∙◌, subst}
+use Rattle.std.proofs.Common.{◌≡◌, ◌+◌, List, length, get_or, take, sym, refl, ap, ◌∙◌, subst}
 use Rattle.std.proofs.lemmas.List.{take_more, take_all}
 use Rattle.house.specs.Houses.{plan_of}
 use Rattle.house.specs.declared.House.{House}
@@ -6,7 +6,7 @@ use Rattle.heat_account.specs.declared.call.Call.{Call}
 use Rattle.heat_account.specs.State.{State, no_state}
 use Rattle.heat_account.specs.Judged.{answer, after}
 use Rattle.heat_account.specs.Ledger.{figured, ledger_after, Stands}
-use Rattle.heat_account.specs.Carried.{Goes, overlaid}
+use Rattle.heat_account.specs.Carried.{overlaid}
 use Rattle.heat_account.specs.Tables.{state_of}
 use Rattle.heat_account.proofs.LedgerLaws.{stands_after}
 use Rattle.heat_account.proofs.Carrying.{goes_along}

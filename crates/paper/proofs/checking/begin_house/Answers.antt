@@ -1,4 +1,4 @@
-use Rattle.std.proofs.Common.{◌≡◌, Option, ap, ◌∙◌}
+use Rattle.std.proofs.Common.{Option, ap, ◌∙◌}
 use Rattle.fault.specs.declared.reason.Reason.{Reason}
 use Rattle.house.specs.Plan.{bare, answer, room_refusal}
 use Rattle.paper.specs.Reading.{joined}

@@ -1,5 +1,4 @@
 use Rattle.std.proofs.Common.{◌∙◌}
-use Rattle.std.proofs.lemmas.Result.{err_from_is_err_and}
 use Rattle.forms.specs.Place.{spot_of}
 use Rattle.paper.proofs.Tails.{opened_ok, figure_stands}
 use Rattle.paper.proofs.figures.open_line.Goals as goal

@@ -1,7 +1,7 @@
 use Rattle.std.proofs.Common.{◌≡◌, ◌<◌, length, get_or, Err, sym, ap, ◌∙◌, arith, ltb-false, ltb-true}
 use Rattle.std.proofs.lemmas.Result.{err_from_is_err_and}
 use Rattle.forms.specs.Place.{spot_of}
-use Rattle.paper.proofs.Tails.{made_exit, method_exit, Leads, leads_by, leads_not, remainder_then, stated_then, no_method, remainder_gives, stated_gives}
+use Rattle.paper.proofs.Tails.{made_exit, method_exit, leads_by, leads_not, remainder_then, stated_then, no_method, remainder_gives, stated_gives}
 use Rattle.paper.proofs.heading.read_method.Goals as goal
 use Rattle.paper.proofs.heading.read_method.Goals.{in_default-via-then-rest-lt1, in_default-via-else-rest-lt1+in_default-1}
 

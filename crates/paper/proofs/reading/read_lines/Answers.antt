@@ -1,4 +1,4 @@
-use Rattle.std.proofs.Common.{◌≡◌, ℕ, ◌-◌, List, length, take, drop, Err, sym, refl, ap, ◌∙◌}
+use Rattle.std.proofs.Common.{ℕ, ◌-◌, List, length, take, drop, Err, sym, refl, ap, ◌∙◌}
 use Rattle.house.specs.Houses.{plan_of}
 use Rattle.house.specs.Plan.{bare}
 use Rattle.forms.specs.Lines.{lines}

@@ -1,7 +1,7 @@
 use Rattle.std.proofs.Common.{◌≡◌, ◌<◌, length, get_or, Err, sym, refl, ap, ◌∙◌, arith, ltb-false, ltb-true}
 use Rattle.std.proofs.lemmas.Result.{err_from_is_err_and}
 use Rattle.forms.specs.Place.{spot_of}
-use Rattle.paper.proofs.Tails.{made_exit, described_exit, Leads, leads_by, leads_not, metered_then, plain_then, detached_kind, metered_gives, plain_gives, detached_gives, no_kind}
+use Rattle.paper.proofs.Tails.{made_exit, described_exit, leads_by, leads_not, metered_then, plain_then, detached_kind, metered_gives, plain_gives, detached_gives, no_kind}
 use Rattle.paper.proofs.room_line.read_kind.Goals as goal
 use Rattle.paper.proofs.room_line.read_kind.Goals.{in_default-via-then-rest-lt1, in_default-via-else-rest-lt1+in_default-1}
 

@@ -9,7 +9,7 @@ pub unreachable-requires : goal.unreachable-requires
 unreachable-requires c =
     let a = c.args.account.now in
     let held = c.correct.new.self in
-    let slip = c.in-ok-slip.slip in
-    let corrected = c.in-ok-slip.ensures in
+    let slip = c.in_ok-slip.slip in
+    let corrected = c.in_ok-slip.ensures in
     let fit = fitting remainders (plan_of a.house) (plan_of held.house) (state_of a.tables) (state_of held.tables) c.args.room c.args.reading slip corrected.value corrected.after (ap plan_of corrected.house) in
     booked (plan_of held.house) (state_of held.tables) slip fit c.in-Err.field-0 c.in-Err.ensures.value

@@ -1,4 +1,4 @@
-use Rattle.std.proofs.Common.{◌≡◌, ℕ, ◌<◌, length, sum, sym, ap, ◌∙◌, subst, arith}
+use Rattle.std.proofs.Common.{ℕ, ◌<◌, length, sum, sym, ap, ◌∙◌, subst, arith}
 use Rattle.sharing.specs.Remainders.{rests, shared_by}
 use Rattle.sharing.specs.Cutoff.{above, Cut}
 use Rattle.sharing.specs.RemainderLaws.{takers, bounded, shared_dealt, left_over, given}

@@ -1,4 +1,4 @@
-use Rattle.std.proofs.Common.{◌≡◌, ◌+◌, ◌-◌, ◌*◌, ◌/◌, ◌≤◌, ◌∷◌, get_or, drop, sym, refl, ap, ◌∙◌, mul-zero, arith}
+use Rattle.std.proofs.Common.{◌≡◌, ◌+◌, ◌-◌, ◌*◌, ◌/◌, ◌∷◌, get_or, drop, sym, refl, ap, ◌∙◌, mul-zero, arith}
 use native.Mathlib.Nat.{zero-div}
 use Rattle.sharing.specs.Running.{running, running_from}
 use Rattle.sharing.specs.Totals.{sum_front, sum_front_le, written_more, written_all}

@@ -1,11 +1,10 @@
-use Rattle.std.proofs.Common.{◌≡◌, ℕ, ◌+◌, ◌-◌, ◌≤◌, ◌≢◌, List, length, take, drop, Ok, sym, refl, ap, ◌∙◌, subst, arith, length-drop}
+use Rattle.std.proofs.Common.{◌≡◌, ℕ, ◌-◌, ◌≢◌, List, length, take, drop, Ok, sym, ap, ◌∙◌, arith, length-drop}
 use native.Mathlib.Nat.{sub-zero}
-use Rattle.std.specs.Str.Parse.{AllDigits, digits_value}
-use Rattle.std.proofs.lemmas.List.{length-take-le}
+use Rattle.std.specs.Str.Parse.{digits_value}
 use Rattle.std.proofs.lemmas.Bool.{cond-false, ne_eqb}
 use Rattle.fault.specs.declared.place.Place.TheVariants.{Text}
-use Rattle.forms.specs.Form.{Figure, numeral_at}
-use Rattle.forms.specs.Place.{Spot, spot_of, onward, numeral}
+use Rattle.forms.specs.Form.{numeral_at}
+use Rattle.forms.specs.Place.{spot_of, onward, numeral}
 use Rattle.forms.proofs.Fronts.{numeral_length}
 use Rattle.forms.proofs.Walks.{spot_onward}
 use Rattle.forms.proofs.cursor.Cursor.number.Goals as goal

@@ -1,8 +1,8 @@
-use Rattle.std.proofs.Common.{◌≡◌, ℕ, ◌+◌, ◌-◌, ◌≤◌, List, length, take, drop, Ok, sym, refl, ap, ◌∙◌, arith, length-drop}
+use Rattle.std.proofs.Common.{◌≡◌, ℕ, ◌-◌, ◌≤◌, length, take, Ok, sym, ap, ◌∙◌, arith, length-drop}
 use native.Mathlib.Nat.{sub-zero}
 use Rattle.fault.specs.declared.place.Place.TheVariants.{Text}
-use Rattle.forms.specs.Form.{Figure, common}
-use Rattle.forms.specs.Place.{Spot, spot_of, onward}
+use Rattle.forms.specs.Form.{common}
+use Rattle.forms.specs.Place.{spot_of, onward}
 use Rattle.forms.proofs.Fronts.{common_small, common_full}
 use Rattle.forms.proofs.Walks.{word_there, spot_onward}
 use Rattle.forms.proofs.cursor.Cursor.word.Goals as goal

@@ -1,4 +1,4 @@
-use Rattle.std.proofs.Common.{◌≡◌, ℕ, ◌-◌, ◌≤◌, List, map, length, get_or, sym, ap, ◌∙◌, subst, arith}
+use Rattle.std.proofs.Common.{ℕ, ◌-◌, ◌≤◌, List, map, length, get_or, sym, ap, ◌∙◌, subst, arith}
 use Rattle.tables.specs.Held.{table_items}
 use Rattle.billing.specs.Period.{figures}
 use Rattle.heat_account.proofs.Balances.{beside_length}

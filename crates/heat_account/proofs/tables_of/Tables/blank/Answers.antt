@@ -1,4 +1,4 @@
-use Rattle.std.proofs.Common.{◌≡◌, ℕ, min}
+use Rattle.std.proofs.Common.{◌≡◌, min}
 use native.Mathlib.Nat.{min-eq_left}
 use Rattle.heat_account.proofs.tables_of.Tables.blank.Goals as goal
 
