@@ -1,4 +1,6 @@
 // Keeps the heat account of one house: a paper and events from standard input, answers to standard output.
+#![tactic(auto)]
+
 use console::season::keep_season;
 use std::io;
 

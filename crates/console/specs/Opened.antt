@@ -1,12 +1,10 @@
 -- What the program prints before its first event, and the account that it then keeps.
-use Rattle.std.specs.Prelude.{◌≡◌, ℕ, Bool, true, false, cond, List, [], Some, None, Ok, Err, Option, Result}
+use Rattle.std.specs.Prelude.{ℕ, cond, List, Ok, Err, Result}
 use Rattle.fault.specs.Numbers.{fault_of}
 use Rattle.fault.specs.declared.place.Place.TheVariants.{Nowhere}
 use Rattle.fault.specs.declared.reason.Reason.TheVariants.{InputTooLong}
 use Rattle.fault.specs.declared.refusal.Fault.{Fault}
-use Rattle.sharing.specs.declared.remainders.Remainders.{Remainders}
 use Rattle.house.specs.Plan.{Plan}
-use Rattle.house.specs.Houses.{plan_of}
 use Rattle.paper.specs.Reading.{reading}
 use Rattle.input.specs.Parts.{too_long, paper_part}
 use Rattle.printing.specs.Printed.{rule_line, refused_paper_line}

@@ -1,4 +1,6 @@
 // What the program prints for each of many papers: a line `=` stands behind each of them.
+#![tactic(auto)]
+
 use console::opening::{print_opening, read_input};
 use sharing::remainders::Remainders;
 use sharing::rule::Sharing;

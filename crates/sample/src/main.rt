@@ -1,4 +1,6 @@
 // A heat accountant at work: a common pot shared under each rule, a pot that is refused, and a season of house 7.
+#![tactic(auto)]
+
 use fault::place::Place;
 use fault::refusal::Fault;
 use keeping::{Stop, keep_season};

@@ -40,41 +40,45 @@ fn nothing_is_being_corrected(rt: HostRuntime) -> Result<(), Fail> {
     Ok(())
 }
 
-fn first_changes(account: &Account<Remainders>) -> Result<[i64; 3], Fault> {
-    Ok([account.change(1)?, account.change(2)?, account.change(3)?])
-}
-
-// What the first three rooms' bills change by, told before the correction ends.
+// What the first three rooms' bills change by, told before the correction of the last period ends.
 fn changes_of(
     account: &mut Account<Remainders>,
     room: u32,
     reading: u32,
-    booked: bool,
+    end: Call,
 ) -> Result<[i64; 3], Fault> {
-    let slip = account.correct(room, reading)?;
-    let changes = first_changes(account);
-    let ended = if booked {
-        account.book(slip)
-    } else {
-        account.withdraw(slip)
-    };
-    match ended {
-        Ok(()) => changes,
-        // Its own account takes a slip.
-        Err(_) => unreachable(),
-    }
+    account.perform(Call::Correct { room, reading });
+    let changes = [account.change(1)?, account.change(2)?, account.change(3)?];
+    account.perform(end);
+    Ok(changes)
 }
 
 #[test]
 fn changes_of_corrections_in_turn(rt: HostRuntime) -> Result<(), Fail> {
     let mut account = seven_closed()?;
-    assert_eq!(rt; changes_of(&mut account, 2, 200, true)?, [1, -15, 14]);
-    assert_eq!(rt; changes_of(&mut account, 1, 5, false)?, [-262, 27, 235]);
+    let first = Call::Book {
+        house: 7,
+        period: 1,
+    };
+    assert_eq!(rt; changes_of(&mut account, 2, 200, first)?, [1, -15, 14]);
+    let dropped = Call::Withdraw {
+        house: 7,
+        period: 1,
+    };
+    assert_eq!(rt; changes_of(&mut account, 1, 5, dropped)?, [-262, 27, 235]);
     // The reading that is there.
-    assert_eq!(rt; changes_of(&mut account, 2, 200, true)?, [0, 0, 0]);
+    let again = Call::Book {
+        house: 7,
+        period: 1,
+    };
+    assert_eq!(rt; changes_of(&mut account, 2, 200, again)?, [0, 0, 0]);
     account.read(1, 250)?;
     account.read(2, 180)?;
     account.close(900, None)?;
-    assert_eq!(rt; changes_of(&mut account, 2, 0, false)?, [20, -164, 144]);
+    let later = Call::Withdraw {
+        house: 7,
+        period: 2,
+    };
+    assert_eq!(rt; changes_of(&mut account, 2, 0, later)?, [20, -164, 144]);
     Ok(())
 }

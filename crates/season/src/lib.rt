@@ -1,3 +1,5 @@
+#![tactic(auto)]
+
 // The heat account through whole seasons, by its public calls.
 #[cfg(test)]
 mod changes;

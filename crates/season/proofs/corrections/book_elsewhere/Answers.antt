@@ -1,4 +1,4 @@
-use Rattle.std.proofs.Common.{◌≡◌, true, sym, ap, ◌∙◌, subst}
+use Rattle.std.proofs.Common.{◌≡◌, true, sym, ap, subst}
 use Rattle.sharing.specs.Remainders.{remainders}
 use Rattle.house.specs.Houses.{plan_of}
 use Rattle.heat_account.specs.declared.slip.Slip.{Slip}
