@@ -1,7 +1,7 @@
 -- Every pot of a period that can be billed is within the limits, and has a claimant if it holds anything.
 use Rattle.std.proofs.Common.{◌≡◌, ℕ, ◌+◌, ◌-◌, ◌*◌, ◌/◌, ◌<◌, ◌≤◌, cond, eqb, List, map, length, sum, Option, sym, ap, ◌∙◌, subst, arith}
 use lib.ListN.{length-map}
-use Rattle.std.specs.List.{AllByRecursion as All}
+use Rattle.std.specs.List.{AllByRecursion}
 use Rattle.std.proofs.ByRecursion.{All-from_get_or}
 use Rattle.std.proofs.lemmas.List.Sums.{get_or-le-sum_by}
 use Rattle.sharing.specs.Rule.{Shares, Fair}
@@ -91,7 +91,7 @@ module _ (percent : ℕ) (rooms : List CountedRoom) (f : Floored percent rooms) 
       let within = excesses_le percent rooms in
       shareable (surcharges percent rooms) (excesses percent rooms) _ rooms f.few (excess_weights percent rooms) (omega (arith, f.read)) (omega (arith, f.read)) (λ some. omega arith)
 
-  all_among : All (Among (floors percent rooms)) rooms
+  all_among : AllByRecursion (Among (floors percent rooms)) rooms
   all_among = All-from_get_or (Among (floors percent rooms)) rooms (record { area = 0; role = Plain }) (λ i h. record {
     low = f.low;
     small = f.read;
@@ -100,8 +100,8 @@ module _ (percent : ℕ) (rooms : List CountedRoom) (f : Floored percent rooms) 
   })
 
   -- the same by what the code hands on
-  pub among_by : (by : Floors) → by ≡ floors percent rooms → All (Among by) rooms
-  among_by by is = subst (λ (v : Floors). All (Among v) rooms) (sym is) all_among
+  pub among_by : (by : Floors) → by ≡ floors percent rooms → AllByRecursion (Among by) rooms
+  among_by by is = subst (λ (v : Floors). AllByRecursion (Among v) rooms) (sym is) all_among
 
   module _ (by : Floors) (is : by ≡ floors percent rooms) (pot : ℕ) (sums : pot ≡ sum (map (surcharge_by by) rooms)) where
     pot_is : pot ≡ surcharges percent rooms

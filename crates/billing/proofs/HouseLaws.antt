@@ -1,6 +1,6 @@
 -- Every lawful house can be billed, whatever is read.
 use Rattle.std.proofs.Common.{◌≡◌, ℕ, suc, ◌+◌, ◌<◌, ◌≤◌, true, List, [], ◌∷◌, length, None, Option, sym, refl, ap, ◌∙◌, subst, arith}
-use Rattle.std.specs.List.{AllByRecursion as All}
+use Rattle.std.specs.List.{AllByRecursion}
 use Rattle.std.proofs.lemmas.List.Sums.{sum_by-cons}
 use Rattle.std.proofs.lemmas.Bool.Decides.{nat_tests}
 use Rattle.house.specs.Plan.{lawful, area_sum}
@@ -26,7 +26,7 @@ counted_areas (r ∷ rooms) [] =
 counted_areas (r ∷ rooms) (m ∷ ms) =
     sum_by-cons (λ (r : CountedRoom). r.area) (record { area = r.area; role = role r.kind m }) (counted rooms ms) ∙ ap (λ v. r.area + v) (counted_areas rooms ms) ∙ sym (sum_by-cons (λ (r : Room). r.area) r rooms)
 
-some_areas : (rooms : List Room) (ms : List (Option ℕ)) (m : ℕ) → All (λ (r : Room). (0 < r.area) × (r.area ≤ m)) rooms → All (λ (r : CountedRoom). 0 < r.area) (counted rooms ms)
+some_areas : (rooms : List Room) (ms : List (Option ℕ)) (m : ℕ) → AllByRecursion (λ (r : Room). (0 < r.area) × (r.area ≤ m)) rooms → AllByRecursion (λ (r : CountedRoom). 0 < r.area) (counted rooms ms)
 some_areas [] ms m h = tt
 some_areas (r ∷ rooms) [] m (h, hs) = (h.0, some_areas rooms [] m hs)
 some_areas (r ∷ rooms) (x ∷ ms) m (h, hs) = (h.0, some_areas rooms ms m hs)

@@ -1,6 +1,6 @@
 -- What the sharing of a pot gives those with a claim to it.
 use Rattle.std.proofs.Common.{◌≡◌, ℕ, zero, suc, ◌+◌, ◌*◌, ◌<◌, ◌≤◌, List, [], ◌∷◌, map, length, replicate, Some, None, sum_by, sum, Option, sym, refl, ap, ◌∙◌, subst, ⊎_elim, mul-le-mul_right, lt_of_mul-lt-mul_right, arith}
-use Rattle.std.specs.List.{AllZip, AllByRecursion as All}
+use Rattle.std.specs.List.{AllZip, AllByRecursion}
 use Rattle.std.proofs.ByRecursion.{All-from_get_or}
 use Rattle.std.proofs.lemmas.List.Sums.{sum_by-cons}
 use Rattle.std.proofs.lemmas.Bool.{cases_lt}
@@ -60,14 +60,14 @@ put_back_sum (None ∷ claims) ss e = omega (arith, sum_cons 0 (put_back claims 
 put_back_sum (Some w ∷ claims) [] e = absurd (omega arith)
 put_back_sum (Some w ∷ claims) (s ∷ ss) e = omega (arith, sum_cons s (put_back claims ss), sum_cons s ss, put_back_sum claims ss (omega arith))
 
-near_portions : (pot all : ℕ) (ws ss : List ℕ) → 0 < all → All (λ w. w ≤ all) ws → AllZip (Near pot all) ws ss → AllZip (Portion pot all) ws ss
+near_portions : (pot all : ℕ) (ws ss : List ℕ) → 0 < all → AllByRecursion (λ w. w ≤ all) ws → AllZip (Near pot all) ws ss → AllZip (Portion pot all) ws ss
 near_portions pot all [] [] pos le h = tt
 near_portions pot all [] (s ∷ ss) pos le h = absurd h
 near_portions pot all (w ∷ ws) [] pos le h = absurd h
 near_portions pot all (w ∷ ws) (s ∷ ss) pos (p, le) (n, h) =
     (record { part = p; near = λ _. n; none = λ z. absurd (omega arith) }, near_portions pot all ws ss pos le h)
 
-no_portions : (pot all : ℕ) (ws : List ℕ) → all ≡ 0 → All (λ w. w ≤ all) ws → AllZip (Portion pot all) ws (replicate (length ws) 0)
+no_portions : (pot all : ℕ) (ws : List ℕ) → all ≡ 0 → AllByRecursion (λ w. w ≤ all) ws → AllZip (Portion pot all) ws (replicate (length ws) 0)
 no_portions pot all [] z le = tt
 no_portions pot all (w ∷ ws) z (p, le) =
     (record { part = p; near = λ pos. absurd (omega arith); none = λ _. refl }, no_portions pot all ws z le)
@@ -81,7 +81,7 @@ module _ (shares : Shares) (fair : Fair shares) (pot : ℕ) (claims : List (Opti
   portions : AllZip (Portion pot (sum (weights claims))) (weights claims) (shares pot (weights claims))
   portions =
       let ws = weights claims in
-      let le : All (λ w. w ≤ sum ws) ws = All-from_get_or (λ w. w ≤ sum ws) ws 0 (λ i h. entry_le_sum ws i h) in
+      let le : AllByRecursion (λ w. w ≤ sum ws) ws = All-from_get_or (λ w. w ≤ sum ws) ws 0 (λ i h. entry_le_sum ws i h) in
       ⊎_elim
       (λ pos. near_portions pot (sum ws) ws (shares pot ws) pos le (fair.near pot ws pos))
       (λ none. subst (λ (v : List ℕ). AllZip (Portion pot (sum ws)) ws v)

@@ -1,6 +1,6 @@
 -- The sums over the rooms of a house.
 use Rattle.std.proofs.Common.{◌≡◌, ℕ, ◌+◌, ◌<◌, ◌≤◌, true, false, cond, List, [], ◌∷◌, length, Some, None, sum_by, sum, Option, refl, arith}
-use Rattle.std.specs.List.{AllByRecursion as All}
+use Rattle.std.specs.List.{AllByRecursion}
 use Rattle.std.proofs.lemmas.List.Sums.{sum_by-cons}
 use Rattle.sharing.specs.Rule.{Shares, Fair}
 use Rattle.billing.specs.declared.counting.Role.{Role}
@@ -52,12 +52,12 @@ read_le_all rooms = sums_le (λ (r : CountedRoom). if_read r.role (λ _. r.area)
     by (Detached t) area = omega arith
 
 -- a house with a room has an area
-pub some_area : (rooms : List CountedRoom) → 0 < length rooms → All (λ (r : CountedRoom). 0 < r.area) rooms → 0 < all_area rooms
+pub some_area : (rooms : List CountedRoom) → 0 < length rooms → AllByRecursion (λ (r : CountedRoom). 0 < r.area) rooms → 0 < all_area rooms
 some_area [] some areas = absurd (omega arith)
 some_area (r ∷ rooms) some (a, areas) = omega (arith, sum_by-cons (λ (r : CountedRoom). r.area) r rooms)
 
 -- each room that counts as plain has an area
-pub plain_counted : (rooms : List CountedRoom) → All (λ (r : CountedRoom). 0 < r.area) rooms → plain_count rooms ≤ plain_area rooms
+pub plain_counted : (rooms : List CountedRoom) → AllByRecursion (λ (r : CountedRoom). 0 < r.area) rooms → plain_count rooms ≤ plain_area rooms
 plain_counted [] areas = omega arith
 plain_counted (r ∷ rooms) (a, areas) =
     omega (arith, sum_by-cons (λ (r : CountedRoom). cond {A = ℕ} (if_plain r.role true false) 1 0) r rooms, sum_by-cons (λ (r : CountedRoom). if_plain r.role r.area 0) r rooms, by r.role r.area a, plain_counted rooms areas)

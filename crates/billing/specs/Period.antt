@@ -1,6 +1,6 @@
 -- One period of a house: when it is refused, its bills and exact amounts, and the laws that every method keeps.
 use Rattle.std.specs.Prelude.{◌≡◌, ℕ, ◌+◌, ◌<◌, ◌≤◌, Bool, true, false, cond, not, ◌&&◌, ◌||◌, List, [], ◌∷◌, length, is_some, Some, None, sum_by, Option, ◌==◌, nat_lt}
-use Rattle.std.specs.List.{AllByRecursion as All}
+use Rattle.std.specs.List.{AllByRecursion}
 use Rattle.fault.specs.declared.reason.Reason.{Reason}
 use Rattle.fault.specs.declared.reason.Reason.TheVariants.{FigureTooLarge, CommonFigure, ReadingsAboveTotal, RestUnclaimed}
 use Rattle.sharing.specs.Rule.{Shares}
@@ -88,7 +88,7 @@ stated_percent (Stated percent) = percent
 -- what a lawful house has
 pub record Lawful (method : Method) (rooms : List CountedRoom) : Type 0 where
   pub some : 0 < length rooms
-  pub areas : All (λ (r : CountedRoom). 0 < r.area) rooms
+  pub areas : AllByRecursion (λ (r : CountedRoom). 0 < r.area) rooms
   pub percent : stated_percent method ≤ 100
 
 -- what the bills of a period can be worked out from: a lawful house within the limits, and nothing that speaks against the period

@@ -1,5 +1,5 @@
 ghost use Rattle.std.specs.Prelude.{◌≡◌, ◌≤◌, map, length, sum};
-ghost use Rattle.std.specs.List.{AllByRecursion as All};
+ghost use Rattle.std.specs.List.{AllByRecursion};
 ghost use Rattle.billing.specs.Claims.{floors, floor_by, surcharge_by, excess_by, gross_by, Floored, Among};
 
 use crate::counting::{CountedRoom, Role};
@@ -75,7 +75,7 @@ impl Floors {
     // The true sum: 256 surcharges within the limits cannot wrap it.
     pub(crate) fn surcharges(self, rooms: &[CountedRoom]) -> u64
         requires few { length rooms.now ≤ 256 }
-        requires among { All (Among self) rooms.now }
+        requires among { AllByRecursion (Among self) rooms.now }
         ensures { result ≡ sum (map (surcharge_by self) rooms.now) }
     {
         let mut sum = 0u64;

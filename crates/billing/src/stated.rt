@@ -1,5 +1,5 @@
 ghost use Rattle.std.specs.Prelude.{◌≡◌, ◌+◌, ◌-◌, ◌≤◌, length};
-ghost use Rattle.std.specs.List.{AllByRecursion as All};
+ghost use Rattle.std.specs.List.{AllByRecursion};
 ghost use Rattle.house.specs.declared.method.Method.TheVariants.{Stated};
 ghost use Rattle.billing.specs.Counting.{read_sum, pipe_sum};
 ghost use Rattle.billing.specs.Pots.{beside, Both};
@@ -45,7 +45,7 @@ impl Figures {
 // Makes each share of the rest what its room pays before any deduction.
 fn make_gross(floors: Floors, rooms: &[CountedRoom], place: &mut [u32])
     requires room { length place.old ≡ length rooms.now }
-    requires among { All (Among floors) rooms.now }
+    requires among { AllByRecursion (Among floors) rooms.now }
     ensures { place.new ≡ beside (gross_by floors) rooms.now place.old }
 {
     for (i, room) in rooms.iter().enumerate() {

@@ -2,7 +2,7 @@
 #![tactic(auto)]
 
 ghost use Rattle.std.specs.Prelude.{◌≡◌, length};
-ghost use Rattle.std.specs.List.{AllByRecursion as All};
+ghost use Rattle.std.specs.List.{AllByRecursion};
 ghost use Rattle.figures.specs.Table.{Holds, table};
 
 // How many figures the table has.
@@ -15,7 +15,7 @@ fn count() -> usize
 // The number of worked figures, each of which follows from the written rules.
 pub fn worked_figures() -> usize
     ensures count { result ≡ length table }
-    ensures hold { All Holds table }
+    ensures hold { AllByRecursion Holds table }
 {
     count()
 }

@@ -1,7 +1,7 @@
 -- Balances and exact amounts over the closed periods.
 use Rattle.std.proofs.Common.{◌≡◌, ℕ, zero, suc, ◌+◌, ◌-◌, ◌*◌, ◌<◌, List, [], ◌∷◌, map, length, replicate, None, sum_by, sum, Option, sym, refl, ap, ◌∙◌, subst, add-zero, add_comm, mul-zero, zero-add, zero-mul, mul-one, arith}
 use lib.ListN.{length-replicate}
-use Rattle.std.specs.List.{AllByRecursion as All}
+use Rattle.std.specs.List.{AllByRecursion}
 use Rattle.std.proofs.lemmas.List.Sums.{sum_by-cons}
 use Rattle.sharing.specs.Rule.{Shares, Fair}
 use Rattle.house.specs.Plan.{Plan}
@@ -90,26 +90,26 @@ module _ (shares : Shares) (fair : Fair shares) (plan : Plan) (lawful : (ms : Li
   balances_length [] = length-replicate {A = ℕ} (length plan.rooms) 0
   balances_length (p ∷ ps) = beside_length ◌+◌ (balances shares plan ps) (map figures (period_bills shares plan p)) ∙ balances_length ps
 
-  closes : (ps : List Period) → All (Workable plan) ps → sum (balances shares plan ps) ≡ sum_by (λ (p : Period). p.total) ps
+  closes : (ps : List Period) → AllByRecursion (Workable plan) ps → sum (balances shares plan ps) ≡ sum_by (λ (p : Period). p.total) ps
   closes [] w = sum_zeros (length plan.rooms)
   closes (p ∷ ps) (w, ws) =
       omega (arith, sum_billed (balances shares plan ps) (period_bills shares plan p) (bills_length p w ∙ sym (balances_length ps)), closes ps ws, (laws_of p w).closes, sum_by-cons (λ (p : Period). p.total) p ps)
 
-  near : (p : Period) (ps : List Period) → Workable plan p → All (Workable plan) ps → Both (λ b x. Within (3 * suc (length ps)) b x) (balances shares plan (p ∷ ps)) (amounts plan (p ∷ ps))
+  near : (p : Period) (ps : List Period) → Workable plan p → AllByRecursion (Workable plan) ps → Both (λ b x. Within (3 * suc (length ps)) b x) (balances shares plan (p ∷ ps)) (amounts plan (p ∷ ps))
   near p [] w ws = near_first 3 (period_bills shares plan p) (period_amounts plan p) (length plan.rooms) (bills_length p w) (laws_of p w).near
   near p (q ∷ ps) w (v, ws) =
       let k : 3 + 3 * suc (length ps) ≡ 3 * suc (suc (length ps)) = omega arith in
       subst (λ (n : ℕ). Both (λ b x. Within n b x) (balances shares plan (p ∷ q ∷ ps)) (amounts plan (p ∷ q ∷ ps))) k
       (near_more 3 (3 * suc (length ps)) (period_bills shares plan p) (period_amounts plan p) (balances shares plan (q ∷ ps)) (amounts plan (q ∷ ps)) (bills_length p w ∙ sym (balances_length (q ∷ ps))) (laws_of p w).near (near q ps v ws))
 
-  floored : (ps : List Period) → All (Workable plan) ps → All (Floored shares plan) ps
+  floored : (ps : List Period) → AllByRecursion (Workable plan) ps → AllByRecursion (Floored shares plan) ps
   floored [] w = tt
   floored (p ∷ ps) (w, ws) = (record { floors = (laws_of p w).floors; readings = (laws_of p w).readings }, floored ps ws)
 
-  some_near : (ps : List Period) → All (Workable plan) ps → 0 < length ps → Both (λ b x. Within (3 * length ps) b x) (balances shares plan ps) (amounts plan ps)
+  some_near : (ps : List Period) → AllByRecursion (Workable plan) ps → 0 < length ps → Both (λ b x. Within (3 * length ps) b x) (balances shares plan ps) (amounts plan ps)
   some_near [] w h = absurd (omega arith)
   some_near (p ∷ ps) (w, ws) h = near p ps w ws
 
   -- what is promised holds of accepted periods
-  pub promised : (ps : List Period) → All (Workable plan) ps → Promises shares plan ps (balances shares plan ps)
+  pub promised : (ps : List Period) → AllByRecursion (Workable plan) ps → Promises shares plan ps (balances shares plan ps)
   promised ps w = record { closes = closes ps w; near = some_near ps w; floors = floored ps w }

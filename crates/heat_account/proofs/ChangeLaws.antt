@@ -1,6 +1,6 @@
 -- The changes of a correction: place by place, and what they do to the balances.
 use Rattle.std.proofs.Common.{◌≡◌, ℕ, zero, suc, ◌-◌, true, List, [], ◌∷◌, map, length, get_or, ℤ, pos, ◌+ℤ◌, ◌-ℤ◌, Some, None, fold, sum_by, Option, sym, refl, ap, ◌∙◌, arith}
-use Rattle.std.specs.List.{AllByRecursion as All}
+use Rattle.std.specs.List.{AllByRecursion}
 use Rattle.std.proofs.lemmas.Int.{ints}
 use Rattle.std.proofs.lemmas.List.Sums.{sum_by-cons}
 use Rattle.sharing.specs.Rule.{Shares, Fair}
@@ -74,7 +74,7 @@ module _ (shares : Shares) (fair : Fair shares) (house : House) where
         omega (arith, ints)
 
   -- the changes of what a ledger holds add up to nothing
-  even_ledger : (readings : List (Option ℕ)) (ps : List Period) (o : Option Correction) → All (Workable plan) ps → Correctable plan ps o → fold ◌+ℤ◌ (pos 0) (changes shares plan (figured shares plan (record { readings = readings; closed = ps; correction = o }))) ≡ pos 0
+  even_ledger : (readings : List (Option ℕ)) (ps : List Period) (o : Option Correction) → AllByRecursion (Workable plan) ps → Correctable plan ps o → fold ◌+ℤ◌ (pos 0) (changes shares plan (figured shares plan (record { readings = readings; closed = ps; correction = o }))) ≡ pos 0
   even_ledger readings ps None w c = let bs = latest_bills shares plan ps in even_changes bs bs refl refl
   even_ledger readings [] (Some c) w (n, some, u) = absurd (omega arith)
   even_ledger readings (p ∷ ps) (Some c) (w, ws) (n, some, u) =

@@ -1,6 +1,6 @@
 -- The ledger: what every call keeps, and that an account goes with it.
 use Rattle.std.proofs.Common.{◌≡◌, ℕ, suc, ◌<◌, ◌≤◌, Bool, true, false, cond, not, eqb, List, [], ◌∷◌, ◌++◌, length, replicate, Some, None, Ok, Err, fold, Option, Result, sym, refl, ap, ◌∙◌, subst, add-one, arith}
-use Rattle.std.specs.List.{AllByRecursion as All}
+use Rattle.std.specs.List.{AllByRecursion}
 use Rattle.std.proofs.lemmas.List.Sums.{fold_push}
 use Rattle.std.proofs.lemmas.Bool.{eq-eqb, and_parts, not-false, cond-false, or_from, le-ltb, eqb-false}
 use Rattle.fault.specs.declared.reason.Reason.{Reason}
@@ -26,7 +26,7 @@ Correctable plan ps None = Unit {0}
 Correctable plan ps (Some c) = (c.period ≡ length ps) × (0 < length ps) × (unamendable plan (latest plan ps) c.place c.reading ≡ None)
 
 pub record Sound (plan : Plan) (l : Ledger) : Type 0 where
-  pub periods : All (Workable plan) l.closed
+  pub periods : AllByRecursion (Workable plan) l.closed
   pub correction : Correctable plan l.closed l.correction
 
 pub sound_empty : (plan : Plan) → Sound plan (empty plan)
@@ -63,12 +63,12 @@ by_is : {X : Type 0} (P : X → Type 0) (r : Result ℕ Reason) (f : ℕ → X) 
 by_is P (Ok i) f old h k = h i refl
 by_is P (Err reason) f old h k = k
 
-amended_latest : (plan : Plan) (ps : List Period) (n i m : ℕ) → n ≡ length ps → All (Workable plan) ps → unamendable plan (latest plan ps) i m ≡ None → All (Workable plan) (amended n i m ps)
+amended_latest : (plan : Plan) (ps : List Period) (n i m : ℕ) → n ≡ length ps → AllByRecursion (Workable plan) ps → unamendable plan (latest plan ps) i m ≡ None → AllByRecursion (Workable plan) (amended n i m ps)
 amended_latest plan [] n i m e w u = tt
 amended_latest plan (p ∷ ps) n i m e (w, ws) u =
-    subst (λ (b : Bool). All (Workable plan) (cond b (reread p i m ∷ ps) (p ∷ amended n i m ps))) (sym (eq-eqb n (suc (length ps)) e)) (u, ws)
+    subst (λ (b : Bool). AllByRecursion (Workable plan) (cond b (reread p i m ∷ ps) (p ∷ amended n i m ps))) (sym (eq-eqb n (suc (length ps)) e)) (u, ws)
 
-booked_workable : (plan : Plan) (ps : List Period) (o : Option Correction) → All (Workable plan) ps → Correctable plan ps o → All (Workable plan) (booked o ps)
+booked_workable : (plan : Plan) (ps : List Period) (o : Option Correction) → AllByRecursion (Workable plan) ps → Correctable plan ps o → AllByRecursion (Workable plan) (booked o ps)
 booked_workable plan ps None w c = w
 booked_workable plan ps (Some c) w (n, some, u) = amended_latest plan ps c.period c.place c.reading n w u
 

@@ -1,6 +1,6 @@
 -- What is promised of every list of calls.
 use Rattle.std.specs.Prelude.{◌≡◌, ℕ, ◌*◌, ◌<◌, ◌≤◌, List, [], ◌∷◌, length, replicate, sum_by, sum}
-use Rattle.std.specs.List.{AllByRecursion as All}
+use Rattle.std.specs.List.{AllByRecursion}
 use Rattle.sharing.specs.Rule.{Shares}
 use Rattle.house.specs.Plan.{Plan}
 use Rattle.billing.specs.declared.counting.CountedRoom.{CountedRoom}
@@ -32,4 +32,4 @@ pub record Floored (shares : Shares) (plan : Plan) (p : Period) : Type 0 where
 pub record Promises (shares : Shares) (plan : Plan) (closed : List Period) (balances : List ℕ) : Type 0 where
   pub closes : sum balances ≡ sum_by (λ (p : Period). p.total) closed
   pub near : 0 < length closed → Both (λ b x. Within (3 * length closed) b x) balances (amounts plan closed)
-  pub floors : All (Floored shares plan) closed
+  pub floors : AllByRecursion (Floored shares plan) closed

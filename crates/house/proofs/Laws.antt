@@ -1,6 +1,6 @@
 -- What a lawful house keeps to.
 use Rattle.std.proofs.Common.{◌≡◌, ℕ, zero, suc, ◌+◌, ◌<◌, ◌≤◌, Bool, true, false, ltb, List, [], ◌∷◌, length, get_or, inl, inr, arith}
-use Rattle.std.specs.List.{AllByRecursion as All}
+use Rattle.std.specs.List.{AllByRecursion}
 use Rattle.std.proofs.lemmas.Bool.{and_parts, ltb-true, cases_order}
 use Rattle.std.proofs.lemmas.Bool.Decides.{nat_tests}
 use Rattle.house.specs.declared.House.{House}
@@ -39,7 +39,7 @@ lawful_by n m rooms l = grind (arith, nat_tests)
 pub house_lawful : (house : House) → lawful (plan_of house).number (plan_of house).method (plan_of house).rooms ≡ true
 house_lawful house = house.lawful
 
-every_all : (test : Room → Bool) (P : Room → Type 0) → ((room : Room) → test room ≡ true → P room) → (rooms : List Room) → every test rooms ≡ true → All P rooms
+every_all : (test : Room → Bool) (P : Room → Type 0) → ((room : Room) → test room ≡ true → P room) → (rooms : List Room) → every test rooms ≡ true → AllByRecursion P rooms
 every_all test P each [] h = tt
 every_all test P each (room ∷ rooms) h =
     let p = and_parts (test room) (every test rooms) h in
@@ -70,19 +70,19 @@ module _ (n : ℕ) (m : Method) (rooms : List Room) (h : lawful n m rooms ≡ tr
   pub few_rooms : length rooms ≤ most_rooms
   few_rooms = (laws_of n m rooms h).few
 
-  pub room_numbers : All (λ r. (0 < r.number) × (r.number ≤ most_number)) rooms
+  pub room_numbers : AllByRecursion (λ r. (0 < r.number) × (r.number ≤ most_number)) rooms
   room_numbers = every_all room_fits _ (λ r t. (grind (arith, nat_tests), grind (arith, nat_tests))) rooms (laws_of n m rooms h).fit
 
-  pub room_areas : All (λ r. (0 < r.area) × (r.area ≤ most_area)) rooms
+  pub room_areas : AllByRecursion (λ r. (0 < r.area) × (r.area ≤ most_area)) rooms
   room_areas = every_all room_fits _ (λ r t. (grind (arith, nat_tests), grind (arith, nat_tests))) rooms (laws_of n m rooms h).fit
 
-  pub pipe_figures : All (λ r. pipe_of r.kind ≤ most_area) rooms
+  pub pipe_figures : AllByRecursion (λ r. pipe_of r.kind ≤ most_area) rooms
   pipe_figures = every_all room_fits _ (λ r t. grind (arith, nat_tests)) rooms (laws_of n m rooms h).fit
 
   pub areas_within : area_sum rooms + common_area m ≤ most_area
   areas_within = (laws_of n m rooms h).areas
 
-  pub kinds_taken : All (λ r. takes m r.kind ≡ true) rooms
+  pub kinds_taken : AllByRecursion (λ r. takes m r.kind ≡ true) rooms
   kinds_taken = every_all (λ r. takes m r.kind) _ (λ r t. t) rooms (laws_of n m rooms h).taken
 
   pub numbers_ascend : (i j : ℕ) (d : Room) → i < j → j < length rooms → (get_or rooms i d).number < (get_or rooms j d).number
@@ -100,6 +100,6 @@ module _ (n : ℕ) (m : Method) (rooms : List Room) (h : lawful n m rooms ≡ tr
 pub percent_within : (n percent : ℕ) (rooms : List Room) → lawful n (Stated percent) rooms ≡ true → percent ≤ most_percent
 percent_within n percent rooms h = let p = (laws_of n (Stated percent) rooms h).method_in in grind (arith, nat_tests)
 
-pub none_detached : (n area : ℕ) (rooms : List Room) → lawful n (Remainder area) rooms ≡ true → All (λ r. is_detached r.kind ≡ false) rooms
+pub none_detached : (n area : ℕ) (rooms : List Room) → lawful n (Remainder area) rooms ≡ true → AllByRecursion (λ r. is_detached r.kind ≡ false) rooms
 none_detached n area rooms h =
     every_all (λ r. takes (Remainder area) r.kind) _ (λ r t. grind (arith, nat_tests)) rooms (laws_of n (Remainder area) rooms h).taken

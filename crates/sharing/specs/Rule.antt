@@ -1,6 +1,6 @@
 -- What every sharing rule keeps to, whoever writes it.
 use Rattle.std.specs.Prelude.{◌≡◌, ℕ, ◌+◌, ◌*◌, ◌<◌, ◌≤◌, List, length, replicate, sum}
-use Rattle.std.specs.List.{AllZip, AllByRecursion as All}
+use Rattle.std.specs.List.{AllZip, AllByRecursion}
 
 -- the shares of a total by weights, under some rule
 abbrev pub Shares : Type 0
@@ -23,9 +23,9 @@ Letter c = (97 ≤ c) × (c ≤ 122)
 pub record Title (letters : List ℕ) : Type 0 where
   pub some : 0 < length letters
   pub short : length letters ≤ 16
-  pub small : All Letter letters
+  pub small : AllByRecursion Letter letters
 
 -- what follows for every rule: no share is above the total, and a weight of 0 has no share
 pub record Modest (shares : Shares) : Type 0 where
-  pub within : (total : ℕ) (weights : List ℕ) → 0 < sum weights → All (λ s. s ≤ total) (shares total weights)
+  pub within : (total : ℕ) (weights : List ℕ) → 0 < sum weights → AllByRecursion (λ s. s ≤ total) (shares total weights)
   pub weightless : (total : ℕ) (weights : List ℕ) → 0 < sum weights → AllZip (λ w s. w ≡ 0 → s ≡ 0) weights (shares total weights)
