@@ -7,9 +7,9 @@ pub struct Slip {
 }
 
 impl Drop for Slip {
-    // Nobody can show this, so a slip that is let go fails the check.
+    // No house has the number 0, so nobody can show this of a slip that an account gave: let go, it fails the check.
     fn drop(self)
-        requires { ⊥ }
+        requires { self.house ≡ 0 }
     {
         let Slip {
             house: _,
