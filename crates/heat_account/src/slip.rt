@@ -9,7 +9,7 @@ pub struct Slip {
 impl Drop for Slip {
     // No house has the number 0, so nobody can show this of a slip that an account gave: let go, it fails the check.
     fn drop(self)
-        requires { self.house ≡ 0 }
+        requires { self ≡ record { house = 0; period = 0 } }
     {
         let Slip {
             house: _,

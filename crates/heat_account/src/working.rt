@@ -1,5 +1,5 @@
 // What an account works out without changing anything.
-ghost use Rattle.std.specs.Prelude.{◌≡◌, ℕ, ◌<◌, ◌≤◌, true, length, get_or, IfOk, slice_index, slice_index_or};
+ghost use Rattle.std.specs.Prelude.{◌≡◌, ℕ, ◌<◌, ◌≤◌, true, length, IfOk, slice_index, slice_index_or};
 ghost use Rattle.tables.specs.Held.{table_items};
 ghost use Rattle.house.specs.Houses.{plan_of};
 ghost use Rattle.billing.specs.Counting.{counted};
@@ -81,7 +81,7 @@ impl<R: Sharing> Account<R> {
         requires { self.now.tables.stage ≡ Correcting place reading }
         ensures value { table_items result ≡ period_bills (R.shares self.now.rule) (plan_of self.now.house) (reread (state_of self.now.tables).last place reading) }
         ensures long { length (table_items result) ≡ length (plan_of self.now.house).rooms }
-        ensures small { ((k : ℕ) → figures (slice_index_or (table_items result) k (0, 0)) ≤ 100000000) }
+        ensures small { (k : ℕ) → figures (slice_index_or (table_items result) k (0, 0)) ≤ 100000000 }
     {
         match self.work_again(place, reading) {
             Ok(bills) => bills,
@@ -127,7 +127,7 @@ impl<R: Sharing> Account<R> {
     }
 
     pub(crate) fn look_up_bill(&self, room: u32) -> Result<(u32, u32), Fault>
-        ensures { result ≡ result_of (plan_of self.now.house) (state_of self.now.tables) (Bill room) (λ place. get_or (state_of self.now.tables).bills place (0, 0)) }
+        ensures { result ≡ result_of (plan_of self.now.house) (state_of self.now.tables) (Bill room) (λ place. slice_index_or (state_of self.now.tables).bills place (0, 0)) }
     {
         match self.billed_place(room) {
             Ok(place) => Ok(self.tables.bills.as_slice()[place]),

@@ -3,8 +3,10 @@ use fault::place::Place;
 use fault::reason::Reason;
 use fault::refusal::Fault;
 use heat_account::Account;
+use heat_account::answer::Answer;
 use heat_account::call::Call;
 use sharing::remainders::Remainders;
+use std::process::Abort;
 use std::test::Fail;
 
 #[test]
@@ -40,16 +42,22 @@ fn nothing_is_being_corrected(rt: HostRuntime) -> Result<(), Fail> {
     Ok(())
 }
 
-// What the first three rooms' bills change by, told before the correction of the last period ends.
+fn first_changes(account: &Account<Remainders>) -> Result<[i64; 3], Fault> {
+    Ok([account.change(1)?, account.change(2)?, account.change(3)?])
+}
+
+// What the first three rooms' bills change by, told while a correction is open that is then ended.
 fn changes_of(
+    rt: &impl Abort,
     account: &mut Account<Remainders>,
     room: u32,
     reading: u32,
     end: Call,
 ) -> Result<[i64; 3], Fault> {
-    account.perform(Call::Correct { room, reading });
-    let changes = [account.change(1)?, account.change(2)?, account.change(3)?];
-    account.perform(end);
+    let begun = account.perform(Call::Correct { room, reading });
+    assert!(rt; matches!(begun, Answer::Corrected { house: 7, .. }));
+    let changes = first_changes(account)?;
+    assert_eq!(rt; account.perform(end), Answer::Done);
     Ok(changes)
 }
 
@@ -60,18 +68,21 @@ fn changes_of_corrections_in_turn(rt: HostRuntime) -> Result<(), Fail> {
         house: 7,
         period: 1,
     };
-    assert_eq!(rt; changes_of(&mut account, 2, 200, first)?, [1, -15, 14]);
+    assert_eq!(rt; changes_of(&rt, &mut account, 2, 200, first)?, [1, -15, 14]);
     let dropped = Call::Withdraw {
         house: 7,
         period: 1,
     };
-    assert_eq!(rt; changes_of(&mut account, 1, 5, dropped)?, [-262, 27, 235]);
+    assert_eq!(rt;
+        changes_of(&rt, &mut account, 1, 5, dropped)?,
+        [-262, 27, 235]
+    );
     // The reading that is there.
     let again = Call::Book {
         house: 7,
         period: 1,
     };
-    assert_eq!(rt; changes_of(&mut account, 2, 200, again)?, [0, 0, 0]);
+    assert_eq!(rt; changes_of(&rt, &mut account, 2, 200, again)?, [0, 0, 0]);
     account.read(1, 250)?;
     account.read(2, 180)?;
     account.close(900, None)?;
@@ -79,6 +90,9 @@ fn changes_of_corrections_in_turn(rt: HostRuntime) -> Result<(), Fail> {
         house: 7,
         period: 2,
     };
-    assert_eq!(rt; changes_of(&mut account, 2, 0, later)?, [20, -164, 144]);
+    assert_eq!(rt;
+        changes_of(&rt, &mut account, 2, 0, later)?,
+        [20, -164, 144]
+    );
     Ok(())
 }
