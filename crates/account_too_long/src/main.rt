@@ -5,5 +5,5 @@ use console::season::keep_season;
 use std::io;
 
 fn main(rt: HostRuntime) -> io::Result<()> {
-    keep_season(&rt)
+    keep_season(rt.alloc(), rt.stdin(), &mut rt.stdout())
 }

@@ -3,3 +3,5 @@
 
 pub mod opening;
 pub mod season;
+#[cfg(test)]
+mod tests;

@@ -1,4 +1,13 @@
-// A season from standard input to standard output.
+// A season from a reader to a writer.
+ghost use Rattle.std.specs.Prelude.{◌≡◌, [], take, string_bytes, IfOk, IfSome, OnOk};
+ghost use Rattle.std.specs.Io.KnownBytes.{Appends};
+ghost use Rattle.sharing.specs.Remainders.{remainders};
+ghost use Rattle.house.specs.Houses.{plan_of};
+ghost use Rattle.events.specs.Events.{event_of};
+ghost use Rattle.heat_account.specs.Tables.{state_of};
+ghost use Rattle.listing.specs.Performed.{line_after, line_printed};
+ghost use Rattle.console.specs.Season.{event_lines, events_text, season_text};
+
 use crate::opening::{print_opening, read_input};
 use heat_account::Account;
 use input::{MOST_INPUT, split_event, split_input};
@@ -10,65 +19,89 @@ use std::io;
 use std::io::{Read, Write};
 
 // One byte more than may come tells an input that is too long, whatever follows.
-const MOST_READ: usize = MOST_INPUT + 1;
-
-// Reads until the input ends or the place is full, and tells how many bytes came.
-fn fill(rt: &HostRuntime, place: &mut [u8]) -> io::Result<usize> {
-    let mut stdin = rt.stdin();
-    let mut len = 0;
-    for _ in 0..place.len() {
-        let count = stdin.read(&mut place[len..])?;
-        if count == 0 {
-            break;
-        }
-        len += count;
-    }
-    Ok(len)
-}
+const MOST_READ: u64 = MOST_INPUT as u64 + 1;
 
 // All of the input, or enough of it to know that it is too long.
-fn read_all(rt: &HostRuntime) -> io::Result<Vec<u8>> {
-    let mut input = vec![in rt.alloc(); 0u8; MOST_READ]?;
-    let len = fill(rt, &mut input)?;
-    input.truncate(len);
+fn read_all<R: Read + Drop>(alloc: Global, reader: R) -> io::Result<Vec<u8>>
+    ensures { IfOk result (λ input. IfSome (R.remaining reader) (λ bytes. input.items ≡ take MOST_READ bytes)) }
+{
+    let mut input = Vec::new(alloc);
+    reader.take(MOST_READ).read_to_end(&mut input)?;
     Ok(input)
 }
 
+// Writes out what stands in the buffer, which is then empty.
+fn write_out<W: Write>(out: &mut String, writer: &mut W) -> io::Result<()>
+    ensures written { OnOk result (Appends (W.contents writer.old) (W.contents writer.new) (string_bytes out.old)) }
+    ensures emptied { OnOk result (string_bytes out.new ≡ []) }
+{
+    writer.write_all(out.as_bytes())?;
+    out.clear();
+    Ok(())
+}
+
+// Performs an event, and writes out what it prints.
+fn keep_event<W: Write>(
+    account: &mut Account<Remainders>,
+    line: &[u8],
+    out: &mut String,
+    writer: &mut W,
+) -> io::Result<()>
+    requires { string_bytes out.old ≡ [] }
+    ensures written { OnOk result (Appends (W.contents writer.old) (W.contents writer.new) (line_printed remainders (plan_of account.old.house) (state_of account.old.tables) (event_of line.now))) }
+    ensures after { state_of account.new.tables ≡ line_after remainders (plan_of account.old.house) (state_of account.old.tables) (event_of line.now) }
+    ensures house { account.new.house ≡ account.old.house }
+    ensures emptied { OnOk result (string_bytes out.new ≡ []) }
+{
+    perform_line(account, line, out)?;
+    write_out(out, writer)
+}
+
 // Performs the events one by one, and writes out what each prints before the next.
-fn keep_account(
-    rt: &HostRuntime,
+fn keep_events<W: Write>(
     account: &mut Account<Remainders>,
     events: &[u8],
     out: &mut String,
-) -> io::Result<()> {
+    writer: &mut W,
+) -> io::Result<()>
+    requires { string_bytes out.old ≡ [] }
+    ensures { OnOk result (Appends (W.contents writer.old) (W.contents writer.new) (events_text remainders (plan_of account.old.house) (state_of account.old.tables) (event_lines events.now))) }
+{
     let mut rest = events;
-    for _ in 0..events.len() {
-        if rest.is_empty() {
-            break;
-        }
+    while !rest.is_empty() {
         let (line, others) = split_event(rest);
-        perform_line(account, line, out)?;
-        rt.stdout().write_all(out.as_bytes())?;
-        out.clear();
+        keep_event(account, line, out, writer)?;
         rest = others;
     }
     Ok(())
 }
 
-// Reads a paper and its events, and prints what they bring.
-pub fn keep_season(rt: &HostRuntime) -> io::Result<()> {
-    let input = read_all(rt)?;
-    let mut out = String::new(rt.alloc());
-    let house = read_input(input.as_slice());
+// Writes what an input brings.
+fn keep_input<W: Write>(alloc: Global, input: &[u8], writer: &mut W) -> io::Result<()>
+    ensures { OnOk result (Appends (W.contents writer.old) (W.contents writer.new) (season_text input.now)) }
+{
+    let mut out = String::new(alloc);
+    let house = read_input(input);
     print_opening(&house, Remainders.title(), &mut out)?;
-    rt.stdout().write_all(out.as_bytes())?;
-    out.clear();
+    write_out(&mut out, writer)?;
     match house {
         Ok(house) => {
             let mut account = Account::open(house, Remainders);
-            let (_, events) = split_input(input.as_slice());
-            keep_account(rt, &mut account, events, &mut out)
+            let (_, events) = split_input(input);
+            keep_events(&mut account, events, &mut out, writer)
         }
         Err(_) => Ok(()),
     }
+}
+
+// Reads a paper and its events, and writes what they bring, event by event.
+pub fn keep_season<R: Read + Drop, W: Write>(
+    alloc: Global,
+    reader: R,
+    writer: &mut W,
+) -> io::Result<()>
+    ensures { OnOk result (IfSome (R.remaining reader) (λ input. Appends (W.contents writer.old) (W.contents writer.new) (season_text input))) }
+{
+    let input = read_all(alloc, reader)?;
+    keep_input(alloc, &input, writer)
 }
