@@ -1,5 +1,5 @@
 -- Rooms with one more at the end.
-use Rattle.std.proofs.Common.{◌≡◌, ℕ, ◌+◌, ◌-◌, ◌<◌, ◌≤◌, Bool, true, cond, ltb, List, [], ◌∷◌, ◌++◌, length, get_or, is_ok, None, Ok, Err, fold, Result, refl, ap, ◌∙◌, sub-one, arith}
+use Rattle.std.proofs.Common.{◌≡◌, ℕ, ◌+◌, ◌-◌, ◌<◌, ◌≤◌, Bool, true, if◌then◌else◌, nat_lt, ltb, List, [], ◌∷◌, ◌++◌, length, get_or, is_ok, None, Ok, Err, fold, Result, refl, ap, ◌∙◌, sub-one, arith}
 use Rattle.std.proofs.lemmas.List.{length_push}
 use Rattle.std.proofs.lemmas.List.Sums.{sum_by_push}
 use Rattle.std.proofs.lemmas.Bool.{and_from, and_parts, cond-true, lt-ltb}
@@ -64,7 +64,7 @@ lawful_push n m rooms room h e =
     })
 
 -- a table takes a room that is not refused
-pub pushed : (m : Method) (rooms : List Room) (room : Room) → next_refusal m rooms room ≡ None → (r : Result (Unit {0}) Room) (new : List Room) → r ≡ cond (ltb (length rooms) most_rooms) (Ok tt) (Err room) → new ≡ cond (is_ok r) (rooms ++ room ∷ []) rooms → new ≡ rooms ++ room ∷ []
+pub pushed : (m : Method) (rooms : List Room) (room : Room) → next_refusal m rooms room ≡ None → (r : Result (Unit {0}) Room) (new : List Room) → r ≡ (if nat_lt (length rooms) most_rooms then Ok tt else Err room) → new ≡ (if is_ok r then rooms ++ room ∷ [] else rooms) → new ≡ rooms ++ room ∷ []
 pushed m rooms room e r new value after =
     let few = (none_is_admitted m rooms room e).few in
     let ok = value ∙ cond-true _ _ _ (lt-ltb (length rooms) most_rooms few) in

@@ -3,11 +3,9 @@ use Rattle.std.proofs.Common.{◌≡◌, ℕ, zero, suc, ◌+◌, ◌<◌, ◌�
 use Rattle.std.specs.List.{AllByRecursion}
 use Rattle.std.proofs.lemmas.Bool.{and_parts, ltb-true, cases_order}
 use Rattle.std.proofs.lemmas.Bool.Decides.{nat_tests}
-use Rattle.house.specs.declared.House.{House}
 use Rattle.house.specs.declared.method.Method.{Method}
 use Rattle.house.specs.declared.method.Method.TheVariants.{Remainder, Stated}
 use Rattle.house.specs.declared.room.Room.{Room}
-use Rattle.house.specs.Houses.{plan_of}
 use Rattle.house.specs.Plan.{most_area, most_number, most_percent, most_rooms, pipe_of, is_detached, common_area, takes, number_fits, method_fits, room_fits, every, ascend_from, area_sum, lawful}
 
 pub record Laws (number : ℕ) (method : Method) (rooms : List Room) : Type 0 where
@@ -34,10 +32,6 @@ laws_of n m rooms h = record {
 
 pub lawful_by : (n : ℕ) (m : Method) (rooms : List Room) → Laws n m rooms → lawful n m rooms ≡ true
 lawful_by n m rooms l = grind (arith, nat_tests)
-
--- every house is lawful
-pub house_lawful : (house : House) → lawful (plan_of house).number (plan_of house).method (plan_of house).rooms ≡ true
-house_lawful house = house.lawful
 
 every_all : (test : Room → Bool) (P : Room → Type 0) → ((room : Room) → test room ≡ true → P room) → (rooms : List Room) → every test rooms ≡ true → AllByRecursion P rooms
 every_all test P each [] h = tt

@@ -1,6 +1,7 @@
 // What a house refuses.
-ghost use Rattle.std.specs.Prelude.{◌≡◌, ◌+◌, ◌^◌, ◌≤◌, length};
-ghost use Rattle.house.specs.Plan.{area_sum, areas_fit, begin_refusal, house_fault, last_number, most_rooms, next_refusal};
+ghost use Rattle.std.specs.Prelude.{◌≡◌, ◌+◌, ◌≤◌};
+ghost use Rattle.std.specs.Result.{result_err};
+ghost use Rattle.house.specs.Plan.{area_sum, areas_fit, begin_refusal, house_fault, last_number, most_area, next_refusal};
 
 use crate::limits::{MOST_AREA, MOST_ROOMS, number_fits};
 use crate::method::Method;
@@ -23,58 +24,50 @@ pub(crate) fn refuse(reason: Reason, room: Room) -> Fault
 fn last_number(rooms: &[Room]) -> u32
     ensures { result ≡ last_number rooms.now }
 {
-    match rooms.last() {
-        Some(last) => last.number,
-        None => 0,
-    }
+    rooms.last().map_or(0, |last| last.number)
 }
 
-// The true sum: so few areas of 32 bits cannot wrap it.
 fn area_sum(rooms: &[Room]) -> u64
-    requires { length rooms.now ≤ most_rooms }
-    ensures value { result ≡ area_sum rooms.now }
-    ensures small { result ≤ 2 ^ 40 }
+    requires { area_sum rooms.now ≤ most_area }
+    ensures { result ≡ area_sum rooms.now }
 {
-    let mut sum = 0u64;
-    for room in rooms {
-        sum += room.area as u64;
-    }
-    sum
+    rooms.iter().map(|room| u64::from(room.area)).sum()
 }
 
 // Whether the areas stay in their range with a further room.
 fn areas_fit(method: Method, rooms: &[Room], room: Room) -> bool
-    requires { length rooms.now ≤ most_rooms }
+    requires { area_sum rooms.now ≤ most_area }
     ensures { result ≡ areas_fit method (area_sum rooms.now + room.area) }
 {
-    area_sum(rooms) + room.area as u64 + method.common_area() as u64 <= MOST_AREA as u64
+    area_sum(rooms) + u64::from(room.area) + u64::from(method.common_area()) <= u64::from(MOST_AREA)
 }
 
-// The first reason to refuse a further room after these, if any.
-pub(crate) fn room_refusal(method: Method, rooms: &[Room], room: Room) -> Option<Reason>
-    ensures { result ≡ next_refusal method rooms.now room }
+// Whether a further room may come after these, or the first reason against it.
+pub(crate) fn check_room(method: Method, rooms: &[Room], room: Room) -> Result<(), Reason>
+    requires { area_sum rooms.now ≤ most_area }
+    ensures { result_err result ≡ next_refusal method rooms.now room }
 {
     if !room.fits() {
-        Some(Reason::NumberOutOfRange)
+        Err(Reason::NumberOutOfRange)
     } else if rooms.len() >= MOST_ROOMS {
-        Some(Reason::TooManyRooms)
+        Err(Reason::TooManyRooms)
     } else if room.number <= last_number(rooms) {
-        Some(Reason::RoomNotAscending)
+        Err(Reason::RoomNotAscending)
     } else if !method.takes(room.kind) {
-        Some(Reason::KindNotTaken)
+        Err(Reason::KindNotTaken)
     } else if !areas_fit(method, rooms, room) {
-        Some(Reason::AreasTooLarge)
+        Err(Reason::AreasTooLarge)
     } else {
-        None
+        Ok(())
     }
 }
 
-// The first reason to refuse a house with its first room, if any.
-pub(crate) fn begin_refusal(number: u32, method: Method, room: Room) -> Option<Reason>
-    ensures { result ≡ begin_refusal number method room }
+// Whether a house may have this first room, or the first reason against it.
+pub(crate) fn check_first(number: u32, method: Method, room: Room) -> Result<(), Reason>
+    ensures { result_err result ≡ begin_refusal number method room }
 {
     if !number_fits(number) || !method.fits() {
-        return Some(Reason::NumberOutOfRange);
+        return Err(Reason::NumberOutOfRange);
     }
-    room_refusal(method, &[], room)
+    check_room(method, &[], room)
 }

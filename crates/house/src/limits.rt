@@ -15,14 +15,14 @@ pub(crate) const MOST_PERCENT: u32 = 100;
 pub fn number_fits(number: u32) -> bool
     ensures { result ≡ number_fits number }
 {
-    number > 0 && number <= MOST_NUMBER
+    (1..=MOST_NUMBER).contains(&number)
 }
 
 // Whether a room may have this area.
 pub fn area_fits(area: u32) -> bool
     ensures { result ≡ area_fits area }
 {
-    area > 0 && area <= MOST_AREA
+    (1..=MOST_AREA).contains(&area)
 }
 
 // Whether a detached room may have this pipe figure.

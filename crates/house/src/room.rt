@@ -15,10 +15,7 @@ impl Kind {
     pub(crate) fn is_detached(self) -> bool
         ensures { result ≡ is_detached self }
     {
-        match self {
-            Kind::Metered | Kind::Plain => false,
-            Kind::Detached { .. } => true,
-        }
+        matches!(self, Kind::Detached { .. })
     }
 
     // The pipe figure, 0 unless detached.

@@ -1,17 +1,18 @@
-ghost use Rattle.std.specs.Prelude.{◌≡◌, ◌<◌, ◌≤◌, min, ltb, [], ◌∷◌, ◌++◌, length, replicate, is_ok, if◌then◌else◌, Ok, Err, nat_lt, slice_set};
-ghost use Rattle.tables.specs.Held.{table_items};
+ghost use Rattle.std.specs.Prelude.{◌≡◌, ◌<◌, ◌≤◌, min, [], ◌∷◌, ◌++◌, length, replicate, is_ok, if◌then◌else◌, Ok, Err, nat_lt, slice_set};
 
 use crate::Table;
 
 impl<T, const N: usize> Table<T, N> {
     pub fn len(&self) -> usize
-        ensures { result ≡ length (table_items self.now) }
+        ensures value { result ≡ length self.now }
+        ensures few { result ≤ N }
     {
         self.as_slice().len()
     }
 
     pub fn as_slice(&self) -> &[T]
-        ensures { result.now ≡ table_items self.now }
+        ensures value { result.now ≡ self.now }
+        ensures few { length result.now ≤ N }
     {
         // The check takes a part of a slice, and not of an array of `N`.
         let all = &self.items[..];
@@ -22,14 +23,14 @@ impl<T, const N: usize> Table<T, N> {
 impl<T: Copy, const N: usize> Table<T, N> {
     // `n` copies of `x`, or `N` where `n` is more.
     pub fn filled(x: T, n: usize) -> Self
-        ensures { table_items result ≡ replicate (min n N) x }
+        ensures { result ≡ replicate (min n N) x }
     {
         Table::with_count(x, n.min(N))
     }
 
     fn with_count(x: T, count: usize) -> Self
         requires { count ≤ N }
-        ensures { table_items result ≡ replicate count x }
+        ensures { result ≡ replicate count x }
     {
         Table {
             count,
@@ -39,8 +40,8 @@ impl<T: Copy, const N: usize> Table<T, N> {
 
     // Appends `x`, or hands it back where the table is full.
     pub fn push(&mut self, x: T) -> Result<(), T>
-        ensures value { result ≡ (if ltb (length (table_items self.old)) N then Ok tt else Err x) }
-        ensures after { table_items self.new ≡ (if is_ok result then table_items self.old ++ x ∷ [] else table_items self.old) }
+        ensures value { result ≡ (if nat_lt (length self.old) N then Ok tt else Err x) }
+        ensures after { self.new ≡ (if is_ok result then self.old ++ x ∷ [] else self.old) }
     {
         if self.count == N {
             return Err(x);
@@ -52,26 +53,19 @@ impl<T: Copy, const N: usize> Table<T, N> {
 
     // Replaces the value at `i`. Past the end it changes nothing, and returns `false`.
     pub fn set(&mut self, i: usize, x: T) -> bool
-        ensures value { result ≡ nat_lt i (length (table_items self.old)) }
-        ensures after { table_items self.new ≡ slice_set (table_items self.old) i x }
+        ensures value { result ≡ nat_lt i (length self.old) }
+        ensures after { self.new ≡ slice_set self.old i x }
     {
-        if i < self.len() {
-            self.write(i, x);
+        if i < self.count {
+            self.items[i] = x;
             return true;
         }
         false
     }
 
-    fn write(&mut self, i: usize, x: T)
-        requires { i < length (table_items self.old) }
-        ensures { table_items self.new ≡ slice_set (table_items self.old) i x }
-    {
-        self.items[i] = x;
-    }
-
     // Holds from now on what `other` holds.
     pub fn copy_from(&mut self, other: &Self)
-        ensures { table_items self.new ≡ table_items other.now }
+        ensures { self.new ≡ other.now }
     {
         self.count = other.count;
         self.items = other.items;

@@ -1,13 +1,7 @@
-use Rattle.std.proofs.Common.{length, sym, arith}
-use Rattle.std.proofs.lemmas.List.{set_past}
-use Rattle.std.proofs.lemmas.Bool.{le-ltb}
-use Rattle.tables.specs.Held.{table_items}
+use Rattle.std.proofs.Common.{set, ap, ◌∙◌}
+use Rattle.tables.proofs.Facts.{front_set}
 use Rattle.tables.proofs.Table.set.Goals as goal
 
-pub returns : goal.returns
-returns g c =
-    let xs = table_items c.args.self.now in
-    record {
-      value = sym (le-ltb c.args.i (length xs) (omega (arith, c.len.ensures)));
-      after = sym (set_past xs c.args.i c.args.x (omega (arith, c.len.ensures)));
-    }
+pub returns-then-i-self-clause-after : goal.returns-then-i-self-clause-after
+returns-then-i-self-clause-after g c =
+    front_set c.self.inside.count c.self.inside.items c.args.i c.args.x ∙ ap (λ xs. set xs c.args.i c.args.x) c.self.view_is
