@@ -1,9 +1,6 @@
 // What a correction changes while it is open.
 ghost use Rattle.std.specs.Prelude.{◌≡◌, ◌≤◌, length, IfOk, Ok};
-ghost use Rattle.tables.specs.Held.{table_items};
-ghost use Rattle.house.specs.Houses.{plan_of};
 ghost use Rattle.heat_account.specs.Judged.{if_correcting};
-ghost use Rattle.heat_account.specs.Tables.{state_of};
 ghost use Rattle.heat_account.specs.Changes.{change, each_change, changes, changes_told, change_told, held_changes, Moves, Evens};
 ghost use Rattle.heat_account.specs.declared.stage.Stage.TheVariants.{Correcting};
 
@@ -37,9 +34,9 @@ fn change_each(old: &[(u32, u32)], new: &[(u32, u32)]) -> Table<i64, ROOMS>
 
 impl<R: Sharing> Account<R> {
     fn corrected_changes(&self, place: usize, reading: u32) -> Table<i64, ROOMS>
-        requires { self.now.tables.stage ≡ Correcting place reading }
-        ensures value { table_items result ≡ changes (R.shares self.now.rule) (plan_of self.now.house) (state_of self.now.tables) }
-        ensures long { length (table_items result) ≡ length (plan_of self.now.house).rooms }
+        requires { self.now.state.stage ≡ Correcting place reading }
+        ensures value { table_items result ≡ changes (R.shares self.now.rule) self.now.house self.now.state }
+        ensures long { length (table_items result) ≡ length self.now.house.rooms }
     {
         let corrected = self.corrected_bills(place, reading);
         change_each(self.tables.bills.as_slice(), corrected.as_slice())
@@ -47,8 +44,8 @@ impl<R: Sharing> Account<R> {
 
     // Works the corrected period out, once for all rooms.
     fn work_changes(&self) -> Result<Table<i64, ROOMS>, Reason>
-        ensures value { held_changes result ≡ if_correcting (state_of self.now.tables) (Ok (changes (R.shares self.now.rule) (plan_of self.now.house) (state_of self.now.tables))) }
-        ensures long { IfOk result (λ t. length (table_items t) ≡ length (plan_of self.now.house).rooms) }
+        ensures value { held_changes result ≡ if_correcting self.now.state (Ok (changes (R.shares self.now.rule) self.now.house self.now.state)) }
+        ensures long { IfOk result (λ t. length (table_items t) ≡ length self.now.house.rooms) }
     {
         match self.tables.stage {
             Stage::Taking => Err(Reason::SlipMismatch),
@@ -57,7 +54,7 @@ impl<R: Sharing> Account<R> {
     }
 
     fn tell_changes(&self) -> Result<Table<i64, ROOMS>, Fault>
-        ensures { held_changes result ≡ changes_told (R.shares self.now.rule) (plan_of self.now.house) (state_of self.now.tables) }
+        ensures { held_changes result ≡ changes_told (R.shares self.now.rule) self.now.house self.now.state }
     {
         match self.work_changes() {
             Ok(changes) => Ok(changes),
@@ -67,16 +64,16 @@ impl<R: Sharing> Account<R> {
 
     // The change of each room's bill by the correction that is open, in the order of the house.
     pub fn changes(&self) -> Result<Table<i64, ROOMS>, Fault>
-        ensures value { held_changes result ≡ changes_told (R.shares self.now.rule) (plan_of self.now.house) (state_of self.now.tables) }
-        ensures moves { Moves (R.shares self.now.rule) (plan_of self.now.house) (state_of self.now.tables) }
-        ensures evens { Evens (R.shares self.now.rule) (plan_of self.now.house) (state_of self.now.tables) }
+        ensures value { held_changes result ≡ changes_told (R.shares self.now.rule) self.now.house self.now.state }
+        ensures moves { Moves (R.shares self.now.rule) self.now.house self.now.state }
+        ensures evens { Evens (R.shares self.now.rule) self.now.house self.now.state }
     {
         self.tell_changes()
     }
 
     // The change of one room's bill by the correction that is open.
     pub fn change(&self, room: u32) -> Result<i64, Fault>
-        ensures value { result ≡ change_told (R.shares self.now.rule) (plan_of self.now.house) (state_of self.now.tables) room }
+        ensures value { result ≡ change_told (R.shares self.now.rule) self.now.house self.now.state room }
     {
         match self.work_changes() {
             Ok(changes) => match self.place(room) {

@@ -1,9 +1,7 @@
 // What an account does for each call, once the stage has let it through.
 ghost use Rattle.std.specs.Prelude.{◌≡◌, true, false};
 ghost use Rattle.fault.specs.Numbers.{fault_of};
-ghost use Rattle.house.specs.Houses.{plan_of};
 ghost use Rattle.heat_account.specs.Judged.{answer, after, correcting};
-ghost use Rattle.heat_account.specs.Tables.{state_of};
 ghost use Rattle.heat_account.specs.declared.call.Call.TheVariants.{Read, Close, Correct, Book, Withdraw};
 ghost use Rattle.heat_account.specs.declared.stage.Stage.TheVariants.{Taking, Correcting};
 
@@ -26,10 +24,8 @@ pub(crate) fn refuse(reason: Reason, place: Place) -> Answer
 
 impl<R: Sharing> Account<R> {
     pub(crate) fn note_reading(&mut self, room: u32, reading: u32) -> Answer
-        ensures value { result ≡ answer (plan_of self.old.house) (state_of self.old.tables) (Read room reading) }
-        ensures after { state_of self.new.tables ≡ after (R.shares self.old.rule) (plan_of self.old.house) (state_of self.old.tables) (Read room reading) }
-        ensures house { self.new.house ≡ self.old.house }
-        ensures rule { self.new.rule ≡ self.old.rule }
+        ensures value { result ≡ answer self.old.house self.old.state (Read room reading) }
+        ensures after { self.new ≡ with_state self.old (after (R.shares self.old.rule) self.old.house self.old.state (Read room reading)) }
     {
         match self.meter(room, reading) {
             Ok(place) => {
@@ -41,11 +37,9 @@ impl<R: Sharing> Account<R> {
     }
 
     pub(crate) fn close_period(&mut self, total: u32, common: Option<u32>) -> Answer
-        requires { self.old.tables.stage ≡ Taking }
-        ensures value { result ≡ answer (plan_of self.old.house) (state_of self.old.tables) (Close total common) }
-        ensures after { state_of self.new.tables ≡ after (R.shares self.old.rule) (plan_of self.old.house) (state_of self.old.tables) (Close total common) }
-        ensures house { self.new.house ≡ self.old.house }
-        ensures rule { self.new.rule ≡ self.old.rule }
+        requires { self.old.state.stage ≡ Taking }
+        ensures value { result ≡ answer self.old.house self.old.state (Close total common) }
+        ensures after { self.new ≡ with_state self.old (after (R.shares self.old.rule) self.old.house self.old.state (Close total common)) }
     {
         if self.tables.closed >= MOST_PERIODS {
             return refuse(Reason::PeriodsFull, Place::Nowhere);
@@ -60,11 +54,9 @@ impl<R: Sharing> Account<R> {
     }
 
     pub(crate) fn hold_correction(&mut self, room: u32, reading: u32) -> Answer
-        requires { self.old.tables.stage ≡ Taking }
-        ensures value { result ≡ answer (plan_of self.old.house) (state_of self.old.tables) (Correct room reading) }
-        ensures after { state_of self.new.tables ≡ after (R.shares self.old.rule) (plan_of self.old.house) (state_of self.old.tables) (Correct room reading) }
-        ensures house { self.new.house ≡ self.old.house }
-        ensures rule { self.new.rule ≡ self.old.rule }
+        requires { self.old.state.stage ≡ Taking }
+        ensures value { result ≡ answer self.old.house self.old.state (Correct room reading) }
+        ensures after { self.new ≡ with_state self.old (after (R.shares self.old.rule) self.old.house self.old.state (Correct room reading)) }
     {
         match self.amendable(room, reading) {
             Ok(place) => {
@@ -85,11 +77,9 @@ impl<R: Sharing> Account<R> {
         house: u32,
         period: u32,
     ) -> Answer
-        requires { self.old.tables.stage ≡ Correcting place reading }
-        ensures value { result ≡ answer (plan_of self.old.house) (state_of self.old.tables) (Book house period) }
-        ensures after { state_of self.new.tables ≡ after (R.shares self.old.rule) (plan_of self.old.house) (state_of self.old.tables) (Book house period) }
-        ensures house { self.new.house ≡ self.old.house }
-        ensures rule { self.new.rule ≡ self.old.rule }
+        requires { self.old.state.stage ≡ Correcting place reading }
+        ensures value { result ≡ answer self.old.house self.old.state (Book house period) }
+        ensures after { self.new ≡ with_state self.old (after (R.shares self.old.rule) self.old.house self.old.state (Book house period)) }
     {
         if !self.fits(house, period) {
             return refuse(Reason::SlipMismatch, Place::Nowhere);
@@ -100,11 +90,9 @@ impl<R: Sharing> Account<R> {
     }
 
     pub(crate) fn drop_correction(&mut self, house: u32, period: u32) -> Answer
-        requires { correcting self.old.tables.stage ≡ true }
-        ensures value { result ≡ answer (plan_of self.old.house) (state_of self.old.tables) (Withdraw house period) }
-        ensures after { state_of self.new.tables ≡ after (R.shares self.old.rule) (plan_of self.old.house) (state_of self.old.tables) (Withdraw house period) }
-        ensures house { self.new.house ≡ self.old.house }
-        ensures rule { self.new.rule ≡ self.old.rule }
+        requires { correcting self.old.state.stage ≡ true }
+        ensures value { result ≡ answer self.old.house self.old.state (Withdraw house period) }
+        ensures after { self.new ≡ with_state self.old (after (R.shares self.old.rule) self.old.house self.old.state (Withdraw house period)) }
     {
         if !self.fits(house, period) {
             return refuse(Reason::SlipMismatch, Place::Nowhere);
@@ -115,10 +103,8 @@ impl<R: Sharing> Account<R> {
 
     // What a call does depends on the stage together with the call.
     pub(crate) fn act(&mut self, call: Call) -> Answer
-        ensures value { result ≡ answer (plan_of self.old.house) (state_of self.old.tables) call }
-        ensures after { state_of self.new.tables ≡ after (R.shares self.old.rule) (plan_of self.old.house) (state_of self.old.tables) call }
-        ensures house { self.new.house ≡ self.old.house }
-        ensures rule { self.new.rule ≡ self.old.rule }
+        ensures value { result ≡ answer self.old.house self.old.state call }
+        ensures after { self.new ≡ with_state self.old (after (R.shares self.old.rule) self.old.house self.old.state call) }
     {
         match (self.tables.stage, call) {
             (_, Call::Read { room, reading }) => self.note_reading(room, reading),

@@ -2,8 +2,6 @@
 #![tactic(auto)]
 
 ghost use Rattle.std.specs.Prelude.{◌≡◌, ◌≤◌, true};
-ghost use Rattle.house.specs.Houses.{plan_of};
-ghost use Rattle.heat_account.specs.Tables.{state_of};
 ghost use Rattle.heat_account.specs.Kept.{Long, Small, Bounded, clear};
 
 use house::House;
@@ -30,9 +28,9 @@ pub struct Account<R: Sharing> {
     house: House,
     rule: R,
     tables: Tables,
-    ghost long: { Long (plan_of house) (state_of tables) },
+    ghost long: { Long house (state_of tables) },
     ghost few: { tables.closed ≤ 600 },
     ghost small: { Small (state_of tables) },
     ghost bounded: { Bounded (state_of tables) },
-    ghost clear: { clear (plan_of house) (state_of tables) ≡ true },
+    ghost clear: { clear house (state_of tables) ≡ true },
 }

@@ -1,8 +1,6 @@
 // What an account shows of all rooms, in the order of the house.
 ghost use Rattle.std.specs.Prelude.{◌≡◌, List};
-ghost use Rattle.house.specs.Houses.{plan_of};
 ghost use Rattle.heat_account.specs.Ledger.{balances, latest_bills, ledger_after, Stands};
-ghost use Rattle.heat_account.specs.Tables.{state_of};
 ghost use Rattle.heat_account.specs.declared.call.Call.{Call};
 
 use crate::Account;
@@ -11,23 +9,23 @@ use sharing::rule::Sharing;
 
 impl<R: Sharing> Account<R> {
     pub fn rooms(&self) -> &[Room]
-        ensures { result.now ≡ (plan_of self.now.house).rooms }
+        ensures { result.now ≡ self.now.house.rooms }
     {
         self.house.rooms()
     }
 
     // The own heat and common share of each room in the period last closed.
     pub fn bills(&self) -> &[(u32, u32)]
-        ensures value { result.now ≡ (state_of self.now.tables).bills }
-        ensures ledger { (calls : List Call) → Stands (R.shares self.now.rule) (plan_of self.now.house) (state_of self.now.tables) calls → result.now ≡ latest_bills (R.shares self.now.rule) (plan_of self.now.house) (ledger_after (R.shares self.now.rule) (plan_of self.now.house) calls).closed }
+        ensures value { result.now ≡ self.now.state.bills }
+        ensures ledger { (calls : List Call) → Stands (R.shares self.now.rule) self.now.house self.now.state calls → result.now ≡ latest_bills (R.shares self.now.rule) self.now.house (ledger_after (R.shares self.now.rule) self.now.house calls).closed }
     {
         self.tables.bills.as_slice()
     }
 
     // The sum of all figures in the bills of each room.
     pub fn balances(&self) -> &[u64]
-        ensures value { result.now ≡ (state_of self.now.tables).balances }
-        ensures ledger { (calls : List Call) → Stands (R.shares self.now.rule) (plan_of self.now.house) (state_of self.now.tables) calls → result.now ≡ balances (R.shares self.now.rule) (plan_of self.now.house) (ledger_after (R.shares self.now.rule) (plan_of self.now.house) calls).closed }
+        ensures value { result.now ≡ self.now.state.balances }
+        ensures ledger { (calls : List Call) → Stands (R.shares self.now.rule) self.now.house self.now.state calls → result.now ≡ balances (R.shares self.now.rule) self.now.house (ledger_after (R.shares self.now.rule) self.now.house calls).closed }
     {
         self.tables.balances.as_slice()
     }

@@ -1,9 +1,7 @@
 // A whole list of calls on a newly opened account.
 ghost use Rattle.std.specs.Prelude.{◌≡◌, slice_set};
-ghost use Rattle.house.specs.Houses.{plan_of};
 ghost use Rattle.heat_account.specs.Judged.{answer, after};
 ghost use Rattle.heat_account.specs.Ledger.{empty, answers_from};
-ghost use Rattle.heat_account.specs.Tables.{state_of};
 ghost use Rattle.heat_account.specs.Carried.{Goes, overlaid};
 
 use crate::Account;
@@ -15,10 +13,8 @@ use sharing::rule::Sharing;
 impl<R: Sharing> Account<R> {
     // Makes one call, and writes its answer to the place if there is room.
     fn perform_into(&mut self, call: Call, answers: &mut [Answer], i: usize)
-        ensures answer { answers.new ≡ slice_set answers.old i (answer (plan_of self.old.house) (state_of self.old.tables) call) }
-        ensures after { state_of self.new.tables ≡ after (R.shares self.old.rule) (plan_of self.old.house) (state_of self.old.tables) call }
-        ensures house { self.new.house ≡ self.old.house }
-        ensures rule { self.new.rule ≡ self.old.rule }
+        ensures answer { answers.new ≡ slice_set answers.old i (answer self.old.house self.old.state call) }
+        ensures after { self.new ≡ with_state self.old (after (R.shares self.old.rule) self.old.house self.old.state call) }
     {
         let answer = self.perform(call);
         if i < answers.len() {
@@ -31,8 +27,8 @@ impl<R: Sharing> Account<R> {
 pub fn run<R: Sharing>(house: House, rule: R, calls: &[Call], answers: &mut [Answer]) -> Account<R>
     ensures house { result.house ≡ house }
     ensures rule { result.rule ≡ rule }
-    ensures ledger { Goes (R.shares rule) (plan_of house) (state_of result.tables) calls.now }
-    ensures answers { answers.new ≡ overlaid (answers_from (R.shares rule) (plan_of house) (empty (plan_of house)) calls.now) answers.old }
+    ensures ledger { Goes (R.shares rule) house (state_of result.tables) calls.now }
+    ensures answers { answers.new ≡ overlaid (answers_from (R.shares rule) house (empty house) calls.now) answers.old }
 {
     let mut account = Account::open(house, rule);
     for (i, call) in calls.iter().enumerate() {

@@ -1,7 +1,5 @@
 // A room's last bill as booked, shared among holders.
 ghost use Rattle.std.specs.Prelude.{◌≡◌};
-ghost use Rattle.house.specs.Houses.{plan_of};
-ghost use Rattle.heat_account.specs.Tables.{state_of};
 ghost use Rattle.heat_account.specs.Split.{figures_of, split_told, split_held};
 
 use crate::Account;
@@ -11,7 +9,7 @@ use sharing::rule::Sharing;
 impl<R: Sharing> Account<R> {
     // Own heat and common share of a room's last bill together.
     fn look_up_figures(&self, room: u32) -> Result<u32, Fault>
-        ensures { result ≡ figures_of (plan_of self.now.house) (state_of self.now.tables) room }
+        ensures { result ≡ figures_of self.now.house self.now.state room }
     {
         match self.look_up_bill(room) {
             Ok((own, common)) => Ok(own + common),
@@ -21,8 +19,8 @@ impl<R: Sharing> Account<R> {
 
     // Writes each holder's share of a room's last bill to the front of the place, by stake and the account's rule.
     pub fn split(&self, room: u32, stakes: &[u32], place: &mut [u32]) -> Result<(), Fault>
-        ensures value { result ≡ split_told (figures_of (plan_of self.now.house) (state_of self.now.tables) room) stakes.now place.old }
-        ensures after { place.new ≡ split_held (R.shares self.now.rule) (figures_of (plan_of self.now.house) (state_of self.now.tables) room) stakes.now place.old }
+        ensures value { result ≡ split_told (figures_of self.now.house self.now.state room) stakes.now place.old }
+        ensures after { place.new ≡ split_held (R.shares self.now.rule) (figures_of self.now.house self.now.state room) stakes.now place.old }
     {
         match self.look_up_figures(room) {
             Ok(total) => self.rule.share(total, stakes, place),

@@ -1,7 +1,5 @@
 // The tables of an account, room by room in the order of the house.
 ghost use Rattle.std.specs.Prelude.{◌≡◌, ℕ, ◌+◌, ◌^◌, ◌<◌, ◌≤◌, length, slice_index, slice_index_or};
-ghost use Rattle.tables.specs.Held.{table_items};
-ghost use Rattle.house.specs.Houses.{plan_of};
 ghost use Rattle.billing.specs.Period.{figures};
 ghost use Rattle.heat_account.specs.State.{billed, unbilled, no_state, with_reading, with_period, with_amended, with_stage, reread};
 ghost use Rattle.heat_account.specs.Tables.{state_of, period_of};
@@ -57,7 +55,7 @@ fn take_off(balances: &mut Table<u64, ROOMS>, bills: &[(u32, u32)])
 impl Tables {
     // Of a house with no period closed.
     pub(crate) fn of(house: &House) -> Tables
-        ensures { state_of result ≡ no_state (length (plan_of house.now).rooms) }
+        ensures { state_of result ≡ no_state (length house.now.rooms) }
     {
         Tables::blank(house.rooms().len())
     }

@@ -1,13 +1,10 @@
 // What an account works out without changing anything.
 ghost use Rattle.std.specs.Prelude.{◌≡◌, ℕ, ◌<◌, ◌≤◌, true, length, IfOk, slice_index, slice_index_or};
-ghost use Rattle.tables.specs.Held.{table_items};
-ghost use Rattle.house.specs.Houses.{plan_of};
 ghost use Rattle.billing.specs.Counting.{counted};
 ghost use Rattle.billing.specs.Period.{refusal, bills, figures};
 ghost use Rattle.billing.specs.Worked.{ruled, held};
 ghost use Rattle.heat_account.specs.State.{period_bills, reread};
 ghost use Rattle.heat_account.specs.Judged.{meter_of, place_of, unamendable, amend_of, correcting, fits, judged, result_of, answer};
-ghost use Rattle.heat_account.specs.Tables.{state_of};
 ghost use Rattle.heat_account.specs.declared.call.Call.TheVariants.{Bill, Balance};
 ghost use Rattle.heat_account.specs.declared.stage.Stage.TheVariants.{Correcting};
 
@@ -25,8 +22,8 @@ use tables::Table;
 impl<R: Sharing> Account<R> {
     // The place of a room that takes this reading.
     pub(crate) fn meter(&self, room: u32, reading: u32) -> Result<usize, Reason>
-        ensures value { result ≡ meter_of (plan_of self.now.house) room reading }
-        ensures within { IfOk result (λ i. i < length (plan_of self.now.house).rooms) }
+        ensures value { result ≡ meter_of self.now.house room reading }
+        ensures within { IfOk result (λ i. i < length self.now.house.rooms) }
     {
         match find_room(self.house.rooms(), room) {
             Ok((place, found)) => take_reading(found.kind, reading, place),
@@ -35,8 +32,8 @@ impl<R: Sharing> Account<R> {
     }
 
     pub(crate) fn place(&self, room: u32) -> Result<usize, Reason>
-        ensures value { result ≡ place_of (plan_of self.now.house) room }
-        ensures within { IfOk result (λ i. i < length (plan_of self.now.house).rooms) }
+        ensures value { result ≡ place_of self.now.house room }
+        ensures within { IfOk result (λ i. i < length self.now.house.rooms) }
     {
         match find_room(self.house.rooms(), room) {
             Ok((place, _)) => Ok(place),
@@ -50,7 +47,7 @@ impl<R: Sharing> Account<R> {
         total: u32,
         common: Option<u32>,
     ) -> Result<Table<(u32, u32), ROOMS>, Reason>
-        ensures { held result ≡ ruled (refusal (plan_of self.now.house).method (counted (plan_of self.now.house).rooms (state_of self.now.tables).readings) total common) (period_bills (R.shares self.now.rule) (plan_of self.now.house) (record { readings = (state_of self.now.tables).readings; total = total; common = common })) }
+        ensures { held result ≡ ruled (refusal self.now.house.method (counted self.now.house.rooms self.now.state.readings) total common) (period_bills (R.shares self.now.rule) self.now.house (record { readings = self.now.state.readings; total = total; common = common })) }
     {
         let readings = self.tables.readings.as_slice();
         work_out(&self.rule, &self.house, readings, total, common)
@@ -62,7 +59,7 @@ impl<R: Sharing> Account<R> {
         place: usize,
         reading: u32,
     ) -> Result<Table<(u32, u32), ROOMS>, Reason>
-        ensures { held result ≡ ruled (unamendable (plan_of self.now.house) (state_of self.now.tables).last place reading) (period_bills (R.shares self.now.rule) (plan_of self.now.house) (reread (state_of self.now.tables).last place reading)) }
+        ensures { held result ≡ ruled (unamendable self.now.house self.now.state.last place reading) (period_bills (R.shares self.now.rule) self.now.house (reread self.now.state.last place reading)) }
     {
         let mut readings = Table::filled(None, 0);
         readings.copy_from(&self.tables.last.readings);
@@ -78,9 +75,9 @@ impl<R: Sharing> Account<R> {
 
     // The bills of the correction that is open.
     pub(crate) fn corrected_bills(&self, place: usize, reading: u32) -> Table<(u32, u32), ROOMS>
-        requires { self.now.tables.stage ≡ Correcting place reading }
-        ensures value { table_items result ≡ period_bills (R.shares self.now.rule) (plan_of self.now.house) (reread (state_of self.now.tables).last place reading) }
-        ensures long { length (table_items result) ≡ length (plan_of self.now.house).rooms }
+        requires { self.now.state.stage ≡ Correcting place reading }
+        ensures value { table_items result ≡ period_bills (R.shares self.now.rule) self.now.house (reread self.now.state.last place reading) }
+        ensures long { length (table_items result) ≡ length self.now.house.rooms }
         ensures small { (k : ℕ) → figures (slice_index_or (table_items result) k (0, 0)) ≤ 100000000 }
     {
         match self.work_again(place, reading) {
@@ -92,8 +89,8 @@ impl<R: Sharing> Account<R> {
 
     // The place of a room whose late reading the last closed period can be worked out with.
     pub(crate) fn amendable(&self, room: u32, reading: u32) -> Result<usize, Reason>
-        ensures value { result ≡ amend_of (plan_of self.now.house) (state_of self.now.tables) room reading }
-        ensures within { IfOk result (λ i. i < length (plan_of self.now.house).rooms) }
+        ensures value { result ≡ amend_of self.now.house self.now.state room reading }
+        ensures within { IfOk result (λ i. i < length self.now.house.rooms) }
     {
         if self.tables.closed == 0 {
             return Err(Reason::NothingClosed);
@@ -109,16 +106,16 @@ impl<R: Sharing> Account<R> {
 
     // Whether a slip is of the correction that is open.
     pub(crate) fn fits(&self, house: u32, period: u32) -> bool
-        requires { correcting self.now.tables.stage ≡ true }
-        ensures { result ≡ fits (plan_of self.now.house) (state_of self.now.tables) house period }
+        requires { correcting self.now.state.stage ≡ true }
+        ensures { result ≡ fits self.now.house self.now.state house period }
     {
         house == self.house.number() && period == self.tables.closed
     }
 
     // The place of a room, once a period is closed.
     fn billed_place(&self, room: u32) -> Result<usize, Reason>
-        ensures value { result ≡ judged (plan_of self.now.house) (state_of self.now.tables) (Bill room) }
-        ensures within { IfOk result (λ i. i < length (plan_of self.now.house).rooms) }
+        ensures value { result ≡ judged self.now.house self.now.state (Bill room) }
+        ensures within { IfOk result (λ i. i < length self.now.house.rooms) }
     {
         match self.tables.closed {
             0 => Err(Reason::NothingClosed),
@@ -127,7 +124,7 @@ impl<R: Sharing> Account<R> {
     }
 
     pub(crate) fn look_up_bill(&self, room: u32) -> Result<(u32, u32), Fault>
-        ensures { result ≡ result_of (plan_of self.now.house) (state_of self.now.tables) (Bill room) (λ place. slice_index_or (state_of self.now.tables).bills place (0, 0)) }
+        ensures { result ≡ result_of self.now.house self.now.state (Bill room) (λ place. slice_index_or self.now.state.bills place (0, 0)) }
     {
         match self.billed_place(room) {
             Ok(place) => Ok(self.tables.bills.as_slice()[place]),
@@ -136,7 +133,7 @@ impl<R: Sharing> Account<R> {
     }
 
     pub(crate) fn look_up_balance(&self, room: u32) -> Result<u64, Fault>
-        ensures { result ≡ result_of (plan_of self.now.house) (state_of self.now.tables) (Balance room) (λ place. slice_index (state_of self.now.tables).balances place) }
+        ensures { result ≡ result_of self.now.house self.now.state (Balance room) (λ place. slice_index self.now.state.balances place) }
     {
         match self.place(room) {
             Ok(place) => Ok(self.tables.balances.as_slice()[place]),
@@ -145,7 +142,7 @@ impl<R: Sharing> Account<R> {
     }
 
     pub(crate) fn tell_bill(&self, room: u32) -> Answer
-        ensures { result ≡ answer (plan_of self.now.house) (state_of self.now.tables) (Bill room) }
+        ensures { result ≡ answer self.now.house self.now.state (Bill room) }
     {
         match self.look_up_bill(room) {
             Ok((own, common)) => Answer::Billed(own, common),
@@ -154,7 +151,7 @@ impl<R: Sharing> Account<R> {
     }
 
     pub(crate) fn tell_balance(&self, room: u32) -> Answer
-        ensures { result ≡ answer (plan_of self.now.house) (state_of self.now.tables) (Balance room) }
+        ensures { result ≡ answer self.now.house self.now.state (Balance room) }
     {
         match self.look_up_balance(room) {
             Ok(balance) => Answer::Balanced(balance),
