@@ -4,9 +4,7 @@ use Rattle.std.specs.List.{AllByRecursion}
 use Rattle.std.proofs.lemmas.Int.{ints}
 use Rattle.std.proofs.lemmas.List.Sums.{sum_by-cons}
 use Rattle.sharing.specs.Rule.{Shares, Fair}
-use Rattle.house.specs.Plan.{Plan}
-use Rattle.house.specs.Houses.{plan_of}
-use Rattle.house.specs.declared.House.{House}
+use Rattle.house.specs.Plan.{Plan, lawful}
 use Rattle.billing.specs.Period.{figures}
 use Rattle.billing.proofs.HouseLaws.{lawful_counted}
 use Rattle.heat_account.specs.declared.stage.Stage.{Stage}
@@ -17,7 +15,8 @@ use Rattle.heat_account.specs.Ledger.{Correction, latest_bills, figured, ledger_
 use Rattle.heat_account.specs.Changes.{change, each_change, changes, Moves, Evens}
 use Rattle.heat_account.proofs.Balances.{Workable, beside_length, laws_of, bills_length}
 use Rattle.heat_account.proofs.Entries.{billed_at, unbilled_at}
-use Rattle.heat_account.proofs.KeptLaws.{Holds, bills_long, clear_facts}
+use Rattle.heat_account.specs.Kept.{Holds}
+use Rattle.heat_account.proofs.KeptLaws.{bills_long, clear_facts}
 use Rattle.heat_account.proofs.LedgerLaws.{Correctable, sound_after}
 use Rattle.heat_account.proofs.Merges.{merged}
 
@@ -54,10 +53,7 @@ all_changes z (old ∷ olds) (new ∷ news) e =
 even_changes : (olds news : List (ℕ × ℕ)) → length news ≡ length olds → sum_by figures news ≡ sum_by figures olds → fold ◌+ℤ◌ (pos 0) (each_change olds news) ≡ pos 0
 even_changes olds news long same = all_changes (pos 0) olds news long ∙ omega (arith, ints)
 
-module _ (shares : Shares) (fair : Fair shares) (house : House) where
-  abbrev plan : Plan
-  plan = plan_of house
-
+module _ (shares : Shares) (fair : Fair shares) (plan : Plan) (law : lawful plan.number plan.method plan.rooms ≡ true) where
   -- booking moves each balance by its room's change
   pub moves : (s : State) → Holds plan s → Moves shares plan s
   moves s h = at_stage s.stage h.clear where
@@ -66,7 +62,7 @@ module _ (shares : Shares) (fair : Fair shares) (house : House) where
     at_stage (Correcting place reading) e k =
         let p = reread s.last place reading in
         let new = period_bills shares plan p in
-        let long = bills_long shares fair house p (clear_facts plan s.last s.closed place reading e).2 new refl in
+        let long = bills_long shares fair plan law p (clear_facts plan s.last s.closed place reading e).2 new refl in
         let here = each_change_at s.bills new k (long ∙ sym h.long.2) in
         let out = unbilled_at s.balances s.bills k in
         let in_place = billed_at (unbilled s.balances s.bills) new k (long ∙ sym (beside_length ◌-◌ s.balances (map figures s.bills) ∙ h.long.3)) in
@@ -78,7 +74,7 @@ module _ (shares : Shares) (fair : Fair shares) (house : House) where
   even_ledger readings ps None w c = let bs = latest_bills shares plan ps in even_changes bs bs refl refl
   even_ledger readings [] (Some c) w (n, some, u) = absurd (omega arith)
   even_ledger readings (p ∷ ps) (Some c) (w, ws) (n, some, u) =
-      let lawful = lawful_counted house in
+      let lawful = lawful_counted plan law in
       let new = reread p c.place c.reading in
       even_changes (period_bills shares plan p) (period_bills shares plan new) (bills_length shares fair plan lawful new u ∙ sym (bills_length shares fair plan lawful p w)) ((laws_of shares fair plan lawful new u).closes ∙ sym (laws_of shares fair plan lawful p w).closes)
 

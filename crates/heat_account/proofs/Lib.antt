@@ -4,7 +4,6 @@ pub mod FoundRooms
 pub mod Merges
 pub mod Entries
 pub mod KeptLaws
-pub mod Held
 pub mod Carrying
 pub mod RunLaws
 pub mod Slips

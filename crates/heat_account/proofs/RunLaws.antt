@@ -1,6 +1,7 @@
 -- A list of calls, one after the other.
-use Rattle.std.proofs.Common.{◌≡◌, ℕ, suc, ◌+◌, ◌<◌, List, [], ◌∷◌, ◌++◌, length, get_or, take, set, fold, sym, refl, ap, ◌∙◌, arith}
+use Rattle.std.proofs.Common.{◌≡◌, ℕ, suc, ◌+◌, ◌<◌, List, [], ◌∷◌, ◌++◌, length, get_or, take, set, fold, Result, sym, refl, ap, ◌∙◌, arith}
 use Rattle.std.proofs.lemmas.List.{take_more, length-take-le}
+use Rattle.fault.specs.declared.refusal.Fault.{Fault}
 use Rattle.sharing.specs.Rule.{Shares}
 use Rattle.house.specs.Plan.{Plan}
 use Rattle.heat_account.specs.declared.answer.Answer.{Answer}
@@ -31,11 +32,11 @@ module _ (shares : Shares) (plan : Plan) where
   answers_push l (c ∷ calls) call = ap (λ v. answer plan (figured shares plan l) c ∷ v) (answers_push (step shares plan l c) calls call)
 
   -- the answers of the calls so far
-  abbrev pub answered : List Call → List Answer
+  abbrev pub answered : List Call → List (Result Answer Fault)
   answered calls = answers_from shares plan (empty plan) calls
 
-  module _ (calls : List Call) (i : ℕ) (d : Call) (h : i < length calls) (now old : List Answer) (inv : now ≡ overlaid (answered (take i calls)) old) (a : Answer) (is : a ≡ answer plan (figured shares plan (ledger_after shares plan (take i calls))) (get_or calls i d)) where
-    pub answer_written : (next : List Answer) → next ≡ set now i a → next ≡ overlaid (answered (take (i + 1) calls)) old
+  module _ (calls : List Call) (i : ℕ) (d : Call) (h : i < length calls) (now old : List (Result Answer Fault)) (inv : now ≡ overlaid (answered (take i calls)) old) (a : Result Answer Fault) (is : a ≡ answer plan (figured shares plan (ledger_after shares plan (take i calls))) (get_or calls i d)) where
+    pub answer_written : (next : List (Result Answer Fault)) → next ≡ set now i a → next ≡ overlaid (answered (take (i + 1) calls)) old
     answer_written next e = e ∙ sym written where
       written : overlaid (answered (take (i + 1) calls)) old ≡ set now i a
       written =

@@ -4,7 +4,7 @@ use Rattle.fault.specs.declared.refusal.Fault.{Fault}
 use Rattle.sharing.specs.Rule.{Shares}
 use Rattle.house.specs.Plan.{Plan}
 use Rattle.heat_account.specs.declared.answer.Answer.{Answer}
-use Rattle.heat_account.specs.declared.answer.Answer.TheVariants.{Done, Refused}
+use Rattle.heat_account.specs.declared.answer.Answer.TheVariants.{Done}
 use Rattle.heat_account.specs.declared.call.Call.{Call}
 use Rattle.heat_account.specs.declared.slip.Slip.{Slip}
 use Rattle.heat_account.specs.State.{State}
@@ -18,27 +18,27 @@ pub record Goes (shares : Shares) (plan : Plan) (s : State) (calls : List Call) 
   pub promised : Promises shares plan (ledger_after shares plan calls).closed s.balances
 
 -- the answer to a call is the ledger's, and the account goes on with it
-pub record Carried (shares : Shares) (plan : Plan) (calls : List Call) (call : Call) (a : Answer) (s : State) : Type 0 where
+pub record Carried (shares : Shares) (plan : Plan) (calls : List Call) (call : Call) (a : Result Answer Fault) (s : State) : Type 0 where
   pub answered : a ≡ answer plan (figured shares plan (ledger_after shares plan calls)) call
   pub goes : Goes shares plan s (calls ++ call ∷ [])
 
 -- whatever calls went before
-abbrev pub Carries : Shares → Plan → State → Call → Answer → State → Type 0
+abbrev pub Carries : Shares → Plan → State → Call → Result Answer Fault → State → Type 0
 Carries shares plan s call a s' = (calls : List Call) → Stands shares plan s calls → Carried shares plan calls call a s'
 
 -- a result as an answer
-abbrev pub answer_of : {X : Type 0} → (X → Answer) → Result X Fault → Answer
-answer_of f (Ok x) = f x
-answer_of f (Err fault) = Refused fault
+abbrev pub answer_of : {X : Type 0} → (X → Answer) → Result X Fault → Result Answer Fault
+answer_of f (Ok x) = Ok (f x)
+answer_of f (Err fault) = Err fault
 
 -- a refused slip comes back
 abbrev pub with_slip : Result (Unit {0}) Fault → Slip → Result (Unit {0}) (Fault × Slip)
 with_slip (Ok u) slip = Ok u
 with_slip (Err fault) slip = Err (fault, slip)
 
-abbrev pub slip_answer : Result (Unit {0}) (Fault × Slip) → Answer
-slip_answer (Ok u) = Done
-slip_answer (Err back) = Refused back.0
+abbrev pub slip_answer : Result (Unit {0}) (Fault × Slip) → Result Answer Fault
+slip_answer (Ok u) = Ok Done
+slip_answer (Err back) = Err back.0
 
 -- a list written over the front of another, as far as that goes
 abbrev pub overlaid : {X : Type 0} → List X → List X → List X

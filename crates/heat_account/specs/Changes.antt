@@ -2,8 +2,6 @@
 use Rattle.std.specs.Prelude.{◌≡◌, ℕ, List, [], ◌∷◌, get_or, ℤ, pos, ◌+ℤ◌, ◌-ℤ◌, Ok, Err, fold, Result, slice_index, slice_index_or}
 use Rattle.fault.specs.declared.place.Place.TheVariants.{Nowhere, Room}
 use Rattle.fault.specs.declared.refusal.Fault.{Fault}
-use Rattle.tables.specs.declared.Table.{Table}
-use Rattle.tables.specs.Held.{table_items}
 use Rattle.sharing.specs.Rule.{Shares}
 use Rattle.house.specs.Plan.{Plan}
 use Rattle.billing.specs.Period.{figures}
@@ -32,11 +30,6 @@ changes_told shares plan s = returned (if_correcting s (Ok 0)) Nowhere (λ _. ch
 
 abbrev pub change_told : Shares → Plan → State → ℕ → Result ℤ Fault
 change_told shares plan s room = returned (if_correcting s (place_of plan room)) (Room room) (λ place. get_or (changes shares plan s) place (pos 0))
-
--- the changes in a table
-abbrev pub held_changes : {E : Type 0} → Result (Table ℤ 256) E → Result (List ℤ) E
-held_changes (Ok table) = Ok (table_items table)
-held_changes (Err e) = Err e
 
 -- booking moves each balance by its room's change
 abbrev pub Moves : Shares → Plan → State → Type 0

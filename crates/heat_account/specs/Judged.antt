@@ -19,8 +19,8 @@ use Rattle.heat_account.specs.declared.stage.Stage.TheVariants.{Taking, Correcti
 use Rattle.heat_account.specs.declared.call.Call.{Call}
 use Rattle.heat_account.specs.declared.call.Call.TheVariants.{Read, Close, Correct, Book, Withdraw, Bill, Balance}
 use Rattle.heat_account.specs.declared.answer.Answer.{Answer}
-use Rattle.heat_account.specs.declared.answer.Answer.TheVariants.{Done, Closed, Corrected, Billed, Balanced, Refused}
-use Rattle.heat_account.specs.State.{Period, State, reread, moved_on}
+use Rattle.heat_account.specs.declared.answer.Answer.TheVariants.{Done, Closed, Corrected, Billed, Balanced}
+use Rattle.heat_account.specs.State.{Period, State, HouseAccount, with_state, reread, moved_on}
 
 -- refused for this reason, unless it does not apply
 abbrev pub unless : {X : Type 0} → Bool → Reason → Result X Reason → Result X Reason
@@ -117,9 +117,20 @@ returned judgement at value = by judgement (λ place. Ok (value place)) (λ reas
 abbrev pub result_of : {X : Type 0} → Plan → State → Call → (ℕ → X) → Result X Fault
 result_of plan s call value = by (judged plan s call) (λ place. Ok (value place)) (λ reason. Err (fault_of reason (named call)))
 
-abbrev pub answer : Plan → State → Call → Answer
-answer plan s call = by (judged plan s call) (told plan s call) (λ reason. Refused (fault_of reason (named call)))
+abbrev pub answer : Plan → State → Call → Result Answer Fault
+answer plan s call = result_of plan s call (told plan s call)
+
+-- the same before the reason is told with its place
+abbrev pub judged_value : {X : Type 0} → Plan → State → Call → (ℕ → X) → Result X Reason
+judged_value plan s call value = and_then (judged plan s call) (λ place. Ok (value place))
+
+abbrev pub judged_answer : Plan → State → Call → Result Answer Reason
+judged_answer plan s call = judged_value plan s call (told plan s call)
 
 -- a refused call leaves everything as it was
 abbrev pub after : Shares → Plan → State → Call → State
 after shares plan s call = by (judged plan s call) (moved_on shares plan s call) (λ _. s)
+
+-- the account after a call
+abbrev pub performed : {R : Type 0} → Shares → HouseAccount R → Call → HouseAccount R
+performed shares a call = with_state a (after shares a.house a.state call)

@@ -1,6 +1,6 @@
 -- What every account keeps true of its tables.
 use Rattle.std.specs.Prelude.{◌≡◌, ℕ, ◌+◌, ◌*◌, ◌≤◌, Bool, true, not, ◌&&◌, length, is_some, nat_lt, slice_index, slice_index_or}
-use Rattle.house.specs.Plan.{Plan}
+use Rattle.house.specs.Plan.{Plan, lawful}
 use Rattle.billing.specs.Period.{figures, given}
 use Rattle.heat_account.specs.declared.stage.Stage.{Stage}
 use Rattle.heat_account.specs.declared.stage.Stage.TheVariants.{Taking, Correcting}
@@ -37,3 +37,12 @@ stands plan last closed (Correcting place reading) =
 
 abbrev pub clear : Plan → State → Bool
 clear plan s = stands plan s.last s.closed s.stage
+
+-- what every account keeps true
+pub record Holds (plan : Plan) (s : State) : Type 0 where
+  pub lawful : lawful plan.number plan.method plan.rooms ≡ true
+  pub long : Long plan s
+  pub few : s.closed ≤ 600
+  pub small : Small s
+  pub bounded : Bounded s
+  pub clear : clear plan s ≡ true

@@ -1,5 +1,6 @@
 -- The ledger that the account answers by: fed the house, the rule and each call's arguments alone.
-use Rattle.std.specs.Prelude.{◌≡◌, ℕ, suc, cond, List, [], ◌∷◌, length, replicate, Some, None, fold, Option, ◌==◌, slice_set}
+use Rattle.std.specs.Prelude.{◌≡◌, ℕ, suc, cond, List, [], ◌∷◌, length, replicate, Some, None, fold, Option, Result, ◌==◌, slice_set}
+use Rattle.fault.specs.declared.refusal.Fault.{Fault}
 use Rattle.sharing.specs.Rule.{Shares}
 use Rattle.house.specs.Plan.{Plan}
 use Rattle.heat_account.specs.declared.stage.Stage.{Stage}
@@ -85,7 +86,7 @@ abbrev pub ledger_after : Shares → Plan → List Call → Ledger
 ledger_after shares plan calls = fold (step shares plan) (empty plan) calls
 
 -- the answers to a list of calls
-abbrev pub answers_from : Shares → Plan → Ledger → List Call → List Answer
+abbrev pub answers_from : Shares → Plan → Ledger → List Call → List (Result Answer Fault)
 answers_from shares plan l [] = []
 answers_from shares plan l (call ∷ calls) = answer plan (figured shares plan l) call ∷ answers_from shares plan (step shares plan l call) calls
 

@@ -78,3 +78,13 @@ moved_on shares plan s (Book house period) place = corrected shares plan s s.sta
 moved_on shares plan s (Withdraw house period) place = with_stage s Taking
 moved_on shares plan s (Bill room) place = s
 moved_on shares plan s (Balance room) place = s
+
+-- an account as its callers see it
+pub record HouseAccount (R : Type 0) : Type 0 where
+  pub house : Plan
+  pub rule : R
+  pub state : State
+
+-- the same account with another state
+abbrev pub with_state : {R : Type 0} → HouseAccount R → State → HouseAccount R
+with_state a s = record { house = a.house; rule = a.rule; state = s }

@@ -1,6 +1,4 @@
-use fault::refusal::Fault;
-
-// What a call answers.
+// What an accepted call answers.
 #[derive(Clone, Copy, PartialEq, Eq, Debug)]
 pub enum Answer {
     Done,
@@ -11,5 +9,4 @@ pub enum Answer {
     // Own heat and common share.
     Billed(u32, u32),
     Balanced(u64),
-    Refused(Fault),
 }

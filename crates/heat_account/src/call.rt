@@ -1,3 +1,8 @@
+ghost use Rattle.std.specs.Prelude.{◌≡◌};
+ghost use Rattle.heat_account.specs.Judged.{named};
+
+use fault::place::Place;
+
 // A call on an account, with its arguments. A slip goes by its numbers.
 #[derive(Clone, Copy, PartialEq, Eq, Debug)]
 pub enum Call {
@@ -8,4 +13,19 @@ pub enum Call {
     Withdraw { house: u32, period: u32 },
     Bill { room: u32 },
     Balance { room: u32 },
+}
+
+impl Call {
+    // The room that it names.
+    pub(crate) fn named(self) -> Place
+        ensures { result ≡ named self }
+    {
+        match self {
+            Call::Read { room, .. }
+            | Call::Correct { room, .. }
+            | Call::Bill { room }
+            | Call::Balance { room } => Place::Room(room),
+            Call::Close { .. } | Call::Book { .. } | Call::Withdraw { .. } => Place::Nowhere,
+        }
+    }
 }

@@ -1,7 +1,8 @@
 // What a correction changes while it is open.
-ghost use Rattle.std.specs.Prelude.{◌≡◌, ◌≤◌, length, IfOk, Ok};
-ghost use Rattle.heat_account.specs.Judged.{if_correcting};
-ghost use Rattle.heat_account.specs.Changes.{change, each_change, changes, changes_told, change_told, held_changes, Moves, Evens};
+ghost use Rattle.std.specs.Prelude.{◌≡◌, ◌≤◌, length, pos, slice_index_or, IfOk, Ok};
+ghost use Rattle.heat_account.specs.Judged.{and_then, if_correcting, place_of};
+ghost use Rattle.heat_account.specs.Kept.{Holds};
+ghost use Rattle.heat_account.specs.Changes.{change, each_change, changes, changes_told, change_told, Moves, Evens};
 ghost use Rattle.heat_account.specs.declared.stage.Stage.TheVariants.{Correcting};
 
 use crate::Account;
@@ -23,7 +24,7 @@ fn change_between(old: (u32, u32), new: (u32, u32)) -> i64
 fn change_each(old: &[(u32, u32)], new: &[(u32, u32)]) -> Table<i64, ROOMS>
     requires long { length new.now ≡ length old.now }
     requires few { length old.now ≤ 256 }
-    ensures { table_items result ≡ each_change old.now new.now }
+    ensures { result ≡ each_change old.now new.now }
 {
     let mut changes = Table::filled(0, old.len());
     for (i, bill) in old.iter().enumerate() {
@@ -35,8 +36,8 @@ fn change_each(old: &[(u32, u32)], new: &[(u32, u32)]) -> Table<i64, ROOMS>
 impl<R: Sharing> Account<R> {
     fn corrected_changes(&self, place: usize, reading: u32) -> Table<i64, ROOMS>
         requires { self.now.state.stage ≡ Correcting place reading }
-        ensures value { table_items result ≡ changes (R.shares self.now.rule) self.now.house self.now.state }
-        ensures long { length (table_items result) ≡ length self.now.house.rooms }
+        ensures value { result ≡ changes (R.shares self.now.rule) self.now.house self.now.state }
+        ensures long { length result ≡ length self.now.house.rooms }
     {
         let corrected = self.corrected_bills(place, reading);
         change_each(self.tables.bills.as_slice(), corrected.as_slice())
@@ -44,8 +45,9 @@ impl<R: Sharing> Account<R> {
 
     // Works the corrected period out, once for all rooms.
     fn work_changes(&self) -> Result<Table<i64, ROOMS>, Reason>
-        ensures value { held_changes result ≡ if_correcting self.now.state (Ok (changes (R.shares self.now.rule) self.now.house self.now.state)) }
-        ensures long { IfOk result (λ t. length (table_items t) ≡ length self.now.house.rooms) }
+        ensures value { result ≡ if_correcting self.now.state (Ok (changes (R.shares self.now.rule) self.now.house self.now.state)) }
+        ensures held { Holds self.now.house self.now.state }
+        ensures long { IfOk result (λ t. length t ≡ length self.now.house.rooms) }
     {
         match self.tables.stage {
             Stage::Taking => Err(Reason::SlipMismatch),
@@ -53,34 +55,27 @@ impl<R: Sharing> Account<R> {
         }
     }
 
-    fn tell_changes(&self) -> Result<Table<i64, ROOMS>, Fault>
-        ensures { held_changes result ≡ changes_told (R.shares self.now.rule) self.now.house self.now.state }
-    {
-        match self.work_changes() {
-            Ok(changes) => Ok(changes),
-            Err(reason) => Err(Fault::new(reason, Place::Nowhere)),
-        }
-    }
-
     // The change of each room's bill by the correction that is open, in the order of the house.
     pub fn changes(&self) -> Result<Table<i64, ROOMS>, Fault>
-        ensures value { held_changes result ≡ changes_told (R.shares self.now.rule) self.now.house self.now.state }
+        ensures value { result ≡ changes_told (R.shares self.now.rule) self.now.house self.now.state }
         ensures moves { Moves (R.shares self.now.rule) self.now.house self.now.state }
         ensures evens { Evens (R.shares self.now.rule) self.now.house self.now.state }
     {
-        self.tell_changes()
+        self.work_changes().map_err(|reason| Fault::new(reason, Place::Nowhere))
+    }
+
+    fn work_change(&self, room: u32) -> Result<i64, Reason>
+        ensures { result ≡ and_then (if_correcting self.now.state (place_of self.now.house room)) (λ place. Ok (slice_index_or (changes (R.shares self.now.rule) self.now.house self.now.state) place (pos 0))) }
+    {
+        let changes = self.work_changes()?;
+        let place = self.place(room)?;
+        Ok(changes.as_slice()[place])
     }
 
     // The change of one room's bill by the correction that is open.
     pub fn change(&self, room: u32) -> Result<i64, Fault>
         ensures value { result ≡ change_told (R.shares self.now.rule) self.now.house self.now.state room }
     {
-        match self.work_changes() {
-            Ok(changes) => match self.place(room) {
-                Ok(place) => Ok(changes.as_slice()[place]),
-                Err(reason) => Err(Fault::new(reason, Place::Room(room))),
-            },
-            Err(reason) => Err(Fault::new(reason, Place::Room(room))),
-        }
+        self.work_change(room).map_err(|reason| Fault::new(reason, Place::Room(room)))
     }
 }

@@ -1,7 +1,7 @@
 // What an account does for each call, once the stage has let it through.
-ghost use Rattle.std.specs.Prelude.{◌≡◌, true, false};
-ghost use Rattle.fault.specs.Numbers.{fault_of};
-ghost use Rattle.heat_account.specs.Judged.{answer, after, correcting};
+ghost use Rattle.std.specs.Prelude.{◌≡◌, true};
+ghost use Rattle.heat_account.specs.Judged.{judged_answer, performed, correcting};
+ghost use Rattle.heat_account.specs.Kept.{Holds};
 ghost use Rattle.heat_account.specs.declared.call.Call.TheVariants.{Read, Close, Correct, Book, Withdraw};
 ghost use Rattle.heat_account.specs.declared.stage.Stage.TheVariants.{Taking, Correcting};
 
@@ -9,102 +9,83 @@ use crate::Account;
 use crate::answer::Answer;
 use crate::call::Call;
 use crate::stage::Stage;
-use fault::place::Place;
 use fault::reason::Reason;
-use fault::refusal::Fault;
 use sharing::rule::Sharing;
 
 const MOST_PERIODS: u32 = 600;
 
-pub(crate) fn refuse(reason: Reason, place: Place) -> Answer
-    ensures { result ≡ Answer.Refused (fault_of reason place) }
-{
-    Answer::Refused(Fault::new(reason, place))
-}
-
 impl<R: Sharing> Account<R> {
-    pub(crate) fn note_reading(&mut self, room: u32, reading: u32) -> Answer
-        ensures value { result ≡ answer self.old.house self.old.state (Read room reading) }
-        ensures after { self.new ≡ with_state self.old (after (R.shares self.old.rule) self.old.house self.old.state (Read room reading)) }
+    fn note_reading(&mut self, room: u32, reading: u32) -> Result<Answer, Reason>
+        ensures value { result ≡ judged_answer self.old.house self.old.state (Read room reading) }
+        ensures after { self.new ≡ performed (R.shares self.old.rule) self.old (Read room reading) }
     {
-        match self.meter(room, reading) {
-            Ok(place) => {
-                self.tables.note(place, reading);
-                Answer::Done
-            }
-            Err(reason) => refuse(reason, Place::Room(room)),
-        }
+        let place = self.meter(room, reading)?;
+        self.tables.note(place, reading);
+        Ok(Answer::Done)
     }
 
-    pub(crate) fn close_period(&mut self, total: u32, common: Option<u32>) -> Answer
+    fn close_period(&mut self, total: u32, common: Option<u32>) -> Result<Answer, Reason>
         requires { self.old.state.stage ≡ Taking }
-        ensures value { result ≡ answer self.old.house self.old.state (Close total common) }
-        ensures after { self.new ≡ with_state self.old (after (R.shares self.old.rule) self.old.house self.old.state (Close total common)) }
+        ensures value { result ≡ judged_answer self.old.house self.old.state (Close total common) }
+        ensures after { self.new ≡ performed (R.shares self.old.rule) self.old (Close total common) }
     {
         if self.tables.closed >= MOST_PERIODS {
-            return refuse(Reason::PeriodsFull, Place::Nowhere);
+            return Err(Reason::PeriodsFull);
         }
-        match self.work_open(total, common) {
-            Ok(bills) => {
-                self.tables.close(total, common, bills);
-                Answer::Closed(self.tables.closed)
-            }
-            Err(reason) => refuse(reason, Place::Nowhere),
-        }
+        let bills = self.work_open(total, common)?;
+        self.tables.close(total, common, bills);
+        Ok(Answer::Closed(self.tables.closed))
     }
 
-    pub(crate) fn hold_correction(&mut self, room: u32, reading: u32) -> Answer
+    fn hold_correction(&mut self, room: u32, reading: u32) -> Result<Answer, Reason>
         requires { self.old.state.stage ≡ Taking }
-        ensures value { result ≡ answer self.old.house self.old.state (Correct room reading) }
-        ensures after { self.new ≡ with_state self.old (after (R.shares self.old.rule) self.old.house self.old.state (Correct room reading)) }
+        ensures value { result ≡ judged_answer self.old.house self.old.state (Correct room reading) }
+        ensures after { self.new ≡ performed (R.shares self.old.rule) self.old (Correct room reading) }
     {
-        match self.amendable(room, reading) {
-            Ok(place) => {
-                self.tables.set_stage(Stage::Correcting { place, reading });
-                Answer::Corrected {
-                    house: self.house.number(),
-                    period: self.tables.closed,
-                }
-            }
-            Err(reason) => refuse(reason, Place::Room(room)),
-        }
+        let place = self.amendable(room, reading)?;
+        self.tables.set_stage(Stage::Correcting { place, reading });
+        Ok(Answer::Corrected {
+            house: self.house.number(),
+            period: self.tables.closed,
+        })
     }
 
-    pub(crate) fn book_correction(
+    fn book_correction(
         &mut self,
         place: usize,
         reading: u32,
         house: u32,
         period: u32,
-    ) -> Answer
+    ) -> Result<Answer, Reason>
         requires { self.old.state.stage ≡ Correcting place reading }
-        ensures value { result ≡ answer self.old.house self.old.state (Book house period) }
-        ensures after { self.new ≡ with_state self.old (after (R.shares self.old.rule) self.old.house self.old.state (Book house period)) }
+        ensures value { result ≡ judged_answer self.old.house self.old.state (Book house period) }
+        ensures after { self.new ≡ performed (R.shares self.old.rule) self.old (Book house period) }
     {
         if !self.fits(house, period) {
-            return refuse(Reason::SlipMismatch, Place::Nowhere);
+            return Err(Reason::SlipMismatch);
         }
         let bills = self.corrected_bills(place, reading);
         self.tables.amend(place, reading, bills);
-        Answer::Done
+        Ok(Answer::Done)
     }
 
-    pub(crate) fn drop_correction(&mut self, house: u32, period: u32) -> Answer
+    fn drop_correction(&mut self, house: u32, period: u32) -> Result<Answer, Reason>
         requires { correcting self.old.state.stage ≡ true }
-        ensures value { result ≡ answer self.old.house self.old.state (Withdraw house period) }
-        ensures after { self.new ≡ with_state self.old (after (R.shares self.old.rule) self.old.house self.old.state (Withdraw house period)) }
+        ensures value { result ≡ judged_answer self.old.house self.old.state (Withdraw house period) }
+        ensures after { self.new ≡ performed (R.shares self.old.rule) self.old (Withdraw house period) }
     {
         if !self.fits(house, period) {
-            return refuse(Reason::SlipMismatch, Place::Nowhere);
+            return Err(Reason::SlipMismatch);
         }
         self.tables.set_stage(Stage::Taking);
-        Answer::Done
+        Ok(Answer::Done)
     }
 
     // What a call does depends on the stage together with the call.
-    pub(crate) fn act(&mut self, call: Call) -> Answer
-        ensures value { result ≡ answer self.old.house self.old.state call }
-        ensures after { self.new ≡ with_state self.old (after (R.shares self.old.rule) self.old.house self.old.state call) }
+    pub(crate) fn act(&mut self, call: Call) -> Result<Answer, Reason>
+        ensures value { result ≡ judged_answer self.old.house self.old.state call }
+        ensures after { self.new ≡ performed (R.shares self.old.rule) self.old call }
+        ensures held { Holds self.old.house self.old.state }
     {
         match (self.tables.stage, call) {
             (_, Call::Read { room, reading }) => self.note_reading(room, reading),
@@ -112,17 +93,9 @@ impl<R: Sharing> Account<R> {
             (_, Call::Balance { room }) => self.tell_balance(room),
             (Stage::Taking, Call::Close { total, common }) => self.close_period(total, common),
             (Stage::Taking, Call::Correct { room, reading }) => self.hold_correction(room, reading),
-            (Stage::Taking, Call::Book { .. } | Call::Withdraw { .. }) => refuse(
-                Reason::SlipMismatch,
-                Place::Nowhere,
-            ),
-            (Stage::Correcting { .. }, Call::Close { .. }) => refuse(
+            (Stage::Taking, Call::Book { .. } | Call::Withdraw { .. }) => Err(Reason::SlipMismatch),
+            (Stage::Correcting { .. }, Call::Close { .. } | Call::Correct { .. }) => Err(
                 Reason::CorrectionOpen,
-                Place::Nowhere,
-            ),
-            (Stage::Correcting { .. }, Call::Correct { room, .. }) => refuse(
-                Reason::CorrectionOpen,
-                Place::Room(room),
             ),
             (Stage::Correcting { place, reading }, Call::Book { house, period }) =>
                 self.book_correction(place, reading, house, period),

@@ -1,5 +1,6 @@
 // Finding a room by its number.
-ghost use Rattle.std.specs.Prelude.{◌≡◌, ◌<◌, length, IfOk};
+ghost use Rattle.std.specs.Prelude.{◌≡◌, ◌<◌, true, length, IfOk};
+ghost use Rattle.house.specs.Plan.{ascend_from};
 ghost use Rattle.heat_account.specs.Judged.{takes, found_from};
 
 use fault::reason::Reason;
@@ -8,17 +9,16 @@ use house::room::{Kind, Room};
 // Of a reading of one room for one period.
 const MOST_READING: u32 = 100_000_000;
 
-// The room and its place.
+// The room and its place. The numbers of a house's rooms rise.
 pub(crate) fn find_room(rooms: &[Room], number: u32) -> Result<(usize, Room), Reason>
+    requires { ascend_from 0 rooms.now ≡ true }
     ensures value { result ≡ found_from rooms.now 0 number }
     ensures within { IfOk result (λ f. f.0 < length rooms.now) }
 {
-    for (i, room) in rooms.iter().enumerate() {
-        if room.number == number {
-            return Ok((i, *room));
-        }
+    match rooms.binary_search_by_key(&number, |room| room.number) {
+        Ok(place) => Ok((place, rooms[place])),
+        Err(_) => Err(Reason::UnknownRoom),
     }
-    Err(Reason::UnknownRoom)
 }
 
 // The place of the room, if it takes this reading.
@@ -26,13 +26,8 @@ pub(crate) fn take_reading(kind: Kind, reading: u32, place: usize) -> Result<usi
     ensures { result ≡ takes kind reading place }
 {
     match kind {
-        Kind::Metered => {
-            if reading > MOST_READING {
-                Err(Reason::ReadingTooLarge)
-            } else {
-                Ok(place)
-            }
-        }
+        Kind::Metered if reading > MOST_READING => Err(Reason::ReadingTooLarge),
+        Kind::Metered => Ok(place),
         Kind::Plain | Kind::Detached { .. } => Err(Reason::NotMetered),
     }
 }

@@ -1,11 +1,9 @@
 // The heat account of one house under a sharing rule.
 #![tactic(auto)]
 
-ghost use Rattle.std.specs.Prelude.{◌≡◌, ◌≤◌, true};
-ghost use Rattle.heat_account.specs.Kept.{Long, Small, Bounded, clear};
-
 use house::House;
 use sharing::rule::Sharing;
+use std::marker::Model;
 pub use tables_of::ROOMS;
 use tables_of::Tables;
 
@@ -28,9 +26,18 @@ pub struct Account<R: Sharing> {
     house: House,
     rule: R,
     tables: Tables,
-    ghost long: { Long house (state_of tables) },
-    ghost few: { tables.closed ≤ 600 },
-    ghost small: { Small (state_of tables) },
-    ghost bounded: { Bounded (state_of tables) },
-    ghost clear: { clear house (state_of tables) ≡ true },
+}
+
+// Clauses see the house, the rule, and what the tables hold.
+impl<R: Sharing> Model for Account<R> {
+    ghost use Rattle.heat_account.specs.State.{HouseAccount};
+
+    ghost Value = { HouseAccount R };
+
+    ghost use Rattle.heat_account.specs.Kept.{Holds};
+    ghost use Rattle.heat_account.specs.Tables.{state_of};
+
+    ghost view = { λ a. record { house = a.house; rule = a.rule; state = state_of a.tables } };
+
+    ghost invariant = { λ a. Holds a.house (state_of a.tables) };
 }

@@ -3,6 +3,7 @@ ghost use Rattle.std.specs.Prelude.{◌≡◌};
 ghost use Rattle.heat_account.specs.Split.{figures_of, split_told, split_held};
 
 use crate::Account;
+use fault::place::Place;
 use fault::refusal::Fault;
 use sharing::rule::Sharing;
 
@@ -11,10 +12,9 @@ impl<R: Sharing> Account<R> {
     fn look_up_figures(&self, room: u32) -> Result<u32, Fault>
         ensures { result ≡ figures_of self.now.house self.now.state room }
     {
-        match self.look_up_bill(room) {
-            Ok((own, common)) => Ok(own + common),
-            Err(fault) => Err(fault),
-        }
+        let (own, common) = self.look_up_bill(room)
+            .map_err(|reason| Fault::new(reason, Place::Room(room)))?;
+        Ok(own + common)
     }
 
     // Writes each holder's share of a room's last bill to the front of the place, by stake and the account's rule.
@@ -22,9 +22,7 @@ impl<R: Sharing> Account<R> {
         ensures value { result ≡ split_told (figures_of self.now.house self.now.state room) stakes.now place.old }
         ensures after { place.new ≡ split_held (R.shares self.now.rule) (figures_of self.now.house self.now.state room) stakes.now place.old }
     {
-        match self.look_up_figures(room) {
-            Ok(total) => self.rule.share(total, stakes, place),
-            Err(fault) => Err(fault),
-        }
+        let total = self.look_up_figures(room)?;
+        self.rule.share(total, stakes, place)
     }
 }

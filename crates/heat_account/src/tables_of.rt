@@ -1,5 +1,6 @@
 // The tables of an account, room by room in the order of the house.
-ghost use Rattle.std.specs.Prelude.{◌≡◌, ℕ, ◌+◌, ◌^◌, ◌<◌, ◌≤◌, length, slice_index, slice_index_or};
+ghost use Rattle.std.specs.Prelude.{◌≡◌, ℕ, ◌+◌, ◌^◌, ◌<◌, ◌≤◌, true, length, slice_index, slice_index_or};
+ghost use Rattle.house.specs.Plan.{lawful};
 ghost use Rattle.billing.specs.Period.{figures};
 ghost use Rattle.heat_account.specs.State.{billed, unbilled, no_state, with_reading, with_period, with_amended, with_stage, reread};
 ghost use Rattle.heat_account.specs.Tables.{state_of, period_of};
@@ -32,9 +33,9 @@ pub(crate) struct Tables {
 
 // Adds each room's bill to its balance.
 fn put_on(balances: &mut Table<u64, ROOMS>, bills: &[(u32, u32)])
-    requires long { length bills.now ≡ length (table_items balances.old) }
-    requires room { (k : ℕ) → slice_index (table_items balances.old) k < 2 ^ 63 }
-    ensures { table_items balances.new ≡ billed (table_items balances.old) bills.now }
+    requires long { length bills.now ≡ length balances.old }
+    requires room { (k : ℕ) → slice_index balances.old k < 2 ^ 63 }
+    ensures { balances.new ≡ billed balances.old bills.now }
 {
     for (i, (own, common)) in bills.iter().enumerate() {
         balances.set(i, balances.as_slice()[i] + (*own as u64 + *common as u64));
@@ -43,9 +44,9 @@ fn put_on(balances: &mut Table<u64, ROOMS>, bills: &[(u32, u32)])
 
 // Takes each room's bill off its balance.
 fn take_off(balances: &mut Table<u64, ROOMS>, bills: &[(u32, u32)])
-    requires long { length bills.now ≡ length (table_items balances.old) }
-    requires covered { (k : ℕ) → figures (slice_index_or bills.now k (0, 0)) ≤ slice_index (table_items balances.old) k }
-    ensures { table_items balances.new ≡ unbilled (table_items balances.old) bills.now }
+    requires long { length bills.now ≡ length balances.old }
+    requires covered { (k : ℕ) → figures (slice_index_or bills.now k (0, 0)) ≤ slice_index balances.old k }
+    ensures { balances.new ≡ unbilled balances.old bills.now }
 {
     for (i, (own, common)) in bills.iter().enumerate() {
         balances.set(i, balances.as_slice()[i] - (*own as u64 + *common as u64));
@@ -55,7 +56,8 @@ fn take_off(balances: &mut Table<u64, ROOMS>, bills: &[(u32, u32)])
 impl Tables {
     // Of a house with no period closed.
     pub(crate) fn of(house: &House) -> Tables
-        ensures { state_of result ≡ no_state (length house.now.rooms) }
+        ensures value { state_of result ≡ no_state (length house.now.rooms) }
+        ensures lawful { lawful house.now.number house.now.method house.now.rooms ≡ true }
     {
         Tables::blank(house.rooms().len())
     }
@@ -87,10 +89,10 @@ impl Tables {
 
     // Closes the open period with these bills.
     pub(crate) fn close(&mut self, total: u32, common: Option<u32>, bills: Table<(u32, u32), ROOMS>)
-        requires long { length (table_items bills) ≡ length (table_items self.old.balances) }
+        requires long { length bills ≡ length self.old.balances }
         requires few { self.old.closed < 600 }
-        requires room { (k : ℕ) → slice_index (table_items self.old.balances) k < 2 ^ 63 }
-        ensures { state_of self.new ≡ with_period (state_of self.old) (record { readings = table_items self.old.readings; total = total; common = common }) (table_items bills) }
+        requires room { (k : ℕ) → slice_index self.old.balances k < 2 ^ 63 }
+        ensures { state_of self.new ≡ with_period (state_of self.old) (record { readings = self.old.readings; total = total; common = common }) bills }
     {
         self.last.readings.copy_from(&self.readings);
         self.last.total = total;
@@ -103,11 +105,11 @@ impl Tables {
 
     // Puts a corrected reading and its bills in place.
     pub(crate) fn amend(&mut self, place: usize, reading: u32, corrected: Table<(u32, u32), ROOMS>)
-        requires long { length (table_items corrected) ≡ length (table_items self.old.balances) }
-        requires same { length (table_items self.old.bills) ≡ length (table_items self.old.balances) }
-        requires room { (k : ℕ) → slice_index (table_items self.old.balances) k < 2 ^ 63 }
-        requires covered { (k : ℕ) → figures (slice_index_or (table_items self.old.bills) k (0, 0)) ≤ slice_index (table_items self.old.balances) k }
-        ensures { state_of self.new ≡ with_amended (state_of self.old) (reread (period_of self.old.last) place reading) (table_items corrected) }
+        requires long { length corrected ≡ length self.old.balances }
+        requires same { length self.old.bills ≡ length self.old.balances }
+        requires room { (k : ℕ) → slice_index self.old.balances k < 2 ^ 63 }
+        requires covered { (k : ℕ) → figures (slice_index_or self.old.bills k (0, 0)) ≤ slice_index self.old.balances k }
+        ensures { state_of self.new ≡ with_amended (state_of self.old) (reread (period_of self.old.last) place reading) corrected }
     {
         self.last.readings.set(place, Some(reading));
         take_off(&mut self.balances, self.bills.as_slice());

@@ -2,9 +2,10 @@
 ghost use Rattle.std.specs.Prelude.{◌≡◌, ℕ, ◌<◌, ◌≤◌, true, length, IfOk, slice_index, slice_index_or};
 ghost use Rattle.billing.specs.Counting.{counted};
 ghost use Rattle.billing.specs.Period.{refusal, bills, figures};
-ghost use Rattle.billing.specs.Worked.{ruled, held};
+ghost use Rattle.billing.specs.Worked.{ruled};
 ghost use Rattle.heat_account.specs.State.{period_bills, reread};
-ghost use Rattle.heat_account.specs.Judged.{meter_of, place_of, unamendable, amend_of, correcting, fits, judged, result_of, answer};
+ghost use Rattle.heat_account.specs.Judged.{meter_of, place_of, unamendable, amend_of, correcting, fits, judged, judged_value, judged_answer};
+ghost use Rattle.heat_account.specs.Kept.{Holds};
 ghost use Rattle.heat_account.specs.declared.call.Call.TheVariants.{Bill, Balance};
 ghost use Rattle.heat_account.specs.declared.stage.Stage.TheVariants.{Correcting};
 
@@ -13,9 +14,7 @@ use crate::answer::Answer;
 use crate::finding::{find_room, take_reading};
 use crate::tables_of::ROOMS;
 use billing::working::work_out;
-use fault::place::Place;
 use fault::reason::Reason;
-use fault::refusal::Fault;
 use sharing::rule::Sharing;
 use tables::Table;
 
@@ -25,20 +24,16 @@ impl<R: Sharing> Account<R> {
         ensures value { result ≡ meter_of self.now.house room reading }
         ensures within { IfOk result (λ i. i < length self.now.house.rooms) }
     {
-        match find_room(self.house.rooms(), room) {
-            Ok((place, found)) => take_reading(found.kind, reading, place),
-            Err(reason) => Err(reason),
-        }
+        let (place, found) = find_room(self.house.rooms(), room)?;
+        take_reading(found.kind, reading, place)
     }
 
     pub(crate) fn place(&self, room: u32) -> Result<usize, Reason>
         ensures value { result ≡ place_of self.now.house room }
         ensures within { IfOk result (λ i. i < length self.now.house.rooms) }
     {
-        match find_room(self.house.rooms(), room) {
-            Ok((place, _)) => Ok(place),
-            Err(reason) => Err(reason),
-        }
+        let (place, _) = find_room(self.house.rooms(), room)?;
+        Ok(place)
     }
 
     // The bills of the open period, closed with these figures.
@@ -47,7 +42,7 @@ impl<R: Sharing> Account<R> {
         total: u32,
         common: Option<u32>,
     ) -> Result<Table<(u32, u32), ROOMS>, Reason>
-        ensures { held result ≡ ruled (refusal self.now.house.method (counted self.now.house.rooms self.now.state.readings) total common) (period_bills (R.shares self.now.rule) self.now.house (record { readings = self.now.state.readings; total = total; common = common })) }
+        ensures { result ≡ ruled (refusal self.now.house.method (counted self.now.house.rooms self.now.state.readings) total common) (period_bills (R.shares self.now.rule) self.now.house (record { readings = self.now.state.readings; total = total; common = common })) }
     {
         let readings = self.tables.readings.as_slice();
         work_out(&self.rule, &self.house, readings, total, common)
@@ -59,7 +54,8 @@ impl<R: Sharing> Account<R> {
         place: usize,
         reading: u32,
     ) -> Result<Table<(u32, u32), ROOMS>, Reason>
-        ensures { held result ≡ ruled (unamendable self.now.house self.now.state.last place reading) (period_bills (R.shares self.now.rule) self.now.house (reread self.now.state.last place reading)) }
+        ensures held { Holds self.now.house self.now.state }
+        ensures value { result ≡ ruled (unamendable self.now.house self.now.state.last place reading) (period_bills (R.shares self.now.rule) self.now.house (reread self.now.state.last place reading)) }
     {
         let mut readings = Table::filled(None, 0);
         readings.copy_from(&self.tables.last.readings);
@@ -76,15 +72,12 @@ impl<R: Sharing> Account<R> {
     // The bills of the correction that is open.
     pub(crate) fn corrected_bills(&self, place: usize, reading: u32) -> Table<(u32, u32), ROOMS>
         requires { self.now.state.stage ≡ Correcting place reading }
-        ensures value { table_items result ≡ period_bills (R.shares self.now.rule) self.now.house (reread self.now.state.last place reading) }
-        ensures long { length (table_items result) ≡ length self.now.house.rooms }
-        ensures small { (k : ℕ) → figures (slice_index_or (table_items result) k (0, 0)) ≤ 100000000 }
+        ensures value { result ≡ period_bills (R.shares self.now.rule) self.now.house (reread self.now.state.last place reading) }
+        ensures long { length result ≡ length self.now.house.rooms }
+        ensures small { (k : ℕ) → figures (slice_index_or result k (0, 0)) ≤ 100000000 }
     {
-        match self.work_again(place, reading) {
-            Ok(bills) => bills,
-            // It was worked out before it was held.
-            Err(_) => unreachable(),
-        }
+        // It was worked out before it was held.
+        self.work_again(place, reading).unwrap()
     }
 
     // The place of a room whose late reading the last closed period can be worked out with.
@@ -95,13 +88,9 @@ impl<R: Sharing> Account<R> {
         if self.tables.closed == 0 {
             return Err(Reason::NothingClosed);
         }
-        match self.meter(room, reading) {
-            Ok(place) => match self.work_again(place, reading) {
-                Ok(_) => Ok(place),
-                Err(reason) => Err(reason),
-            },
-            Err(reason) => Err(reason),
-        }
+        let place = self.meter(room, reading)?;
+        self.work_again(place, reading)?;
+        Ok(place)
     }
 
     // Whether a slip is of the correction that is open.
@@ -117,45 +106,42 @@ impl<R: Sharing> Account<R> {
         ensures value { result ≡ judged self.now.house self.now.state (Bill room) }
         ensures within { IfOk result (λ i. i < length self.now.house.rooms) }
     {
-        match self.tables.closed {
-            0 => Err(Reason::NothingClosed),
-            _ => self.place(room),
+        if self.tables.closed == 0 {
+            return Err(Reason::NothingClosed);
         }
+        self.place(room)
     }
 
-    pub(crate) fn look_up_bill(&self, room: u32) -> Result<(u32, u32), Fault>
-        ensures { result ≡ result_of self.now.house self.now.state (Bill room) (λ place. slice_index_or self.now.state.bills place (0, 0)) }
+    // Own heat and common share of a room's last bill.
+    pub(crate) fn look_up_bill(&self, room: u32) -> Result<(u32, u32), Reason>
+        ensures value { result ≡ judged_value self.now.house self.now.state (Bill room) (λ place. slice_index_or self.now.state.bills place (0, 0)) }
+        ensures small { IfOk result (λ b. figures b ≤ 100000000) }
+        ensures held { Holds self.now.house self.now.state }
     {
-        match self.billed_place(room) {
-            Ok(place) => Ok(self.tables.bills.as_slice()[place]),
-            Err(reason) => Err(Fault::new(reason, Place::Room(room))),
-        }
+        let bills = self.tables.bills.as_slice();
+        let place = self.billed_place(room)?;
+        Ok(bills[place])
     }
 
-    pub(crate) fn look_up_balance(&self, room: u32) -> Result<u64, Fault>
-        ensures { result ≡ result_of self.now.house self.now.state (Balance room) (λ place. slice_index self.now.state.balances place) }
+    pub(crate) fn look_up_balance(&self, room: u32) -> Result<u64, Reason>
+        ensures value { result ≡ judged_value self.now.house self.now.state (Balance room) (λ place. slice_index self.now.state.balances place) }
+        ensures held { Holds self.now.house self.now.state }
     {
-        match self.place(room) {
-            Ok(place) => Ok(self.tables.balances.as_slice()[place]),
-            Err(reason) => Err(Fault::new(reason, Place::Room(room))),
-        }
+        let balances = self.tables.balances.as_slice();
+        let place = self.place(room)?;
+        Ok(balances[place])
     }
 
-    pub(crate) fn tell_bill(&self, room: u32) -> Answer
-        ensures { result ≡ answer self.now.house self.now.state (Bill room) }
+    pub(crate) fn tell_bill(&self, room: u32) -> Result<Answer, Reason>
+        ensures { result ≡ judged_answer self.now.house self.now.state (Bill room) }
     {
-        match self.look_up_bill(room) {
-            Ok((own, common)) => Answer::Billed(own, common),
-            Err(fault) => Answer::Refused(fault),
-        }
+        let (own, common) = self.look_up_bill(room)?;
+        Ok(Answer::Billed(own, common))
     }
 
-    pub(crate) fn tell_balance(&self, room: u32) -> Answer
-        ensures { result ≡ answer self.now.house self.now.state (Balance room) }
+    pub(crate) fn tell_balance(&self, room: u32) -> Result<Answer, Reason>
+        ensures { result ≡ judged_answer self.now.house self.now.state (Balance room) }
     {
-        match self.look_up_balance(room) {
-            Ok(balance) => Answer::Balanced(balance),
-            Err(fault) => Answer::Refused(fault),
-        }
+        Ok(Answer::Balanced(self.look_up_balance(room)?))
     }
 }

@@ -46,7 +46,7 @@ ascend_above n (room ∷ rooms) h (suc i) d l =
     let p = and_parts (ltb n room.number) (ascend_from room.number rooms) h in
     omega (arith, ltb-true n room.number p.0, ascend_above room.number rooms p.1 i d (omega arith))
 
-ascend_far : (n : ℕ) (rooms : List Room) → ascend_from n rooms ≡ true → (i j : ℕ) (d : Room) → i < j → j < length rooms → (get_or rooms i d).number < (get_or rooms j d).number
+pub ascend_far : (n : ℕ) (rooms : List Room) → ascend_from n rooms ≡ true → (i j : ℕ) (d : Room) → i < j → j < length rooms → (get_or rooms i d).number < (get_or rooms j d).number
 ascend_far n [] h i j d lt l = absurd (omega arith)
 ascend_far n (room ∷ rooms) h i zero d lt l = absurd (omega arith)
 ascend_far n (room ∷ rooms) h zero (suc j) d lt l =

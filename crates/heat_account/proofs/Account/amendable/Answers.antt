@@ -1,10 +1,14 @@
-use Rattle.house.specs.Houses.{plan_of}
+use Rattle.std.proofs.lemmas.Result.{err_from_is_err_and}
+use Rattle.heat_account.specs.State.{period_bills, reread}
 use Rattle.heat_account.specs.Judged.{unamendable}
-use Rattle.heat_account.specs.Tables.{state_of}
 use Rattle.heat_account.proofs.KeptLaws.{ruled_err, amend_refused}
 use Rattle.heat_account.proofs.Account.amendable.Goals as goal
 
-pub returns-in-Err-work_again : goal.returns-in-Err-work_again
-returns-in-Err-work_again g c =
-    let o = ruled_err (unamendable (plan_of c.args.self.now.house) (state_of c.args.self.now.tables).last c.in-Ok.place c.args.reading) _ c.in-Err-work_again.reason c.in-Err-work_again.ensures in
-    record { value = amend_refused (plan_of c.args.self.now.house) (state_of c.args.self.now.tables) c.args.room c.args.reading c.in-Ok.place c.in-Err-work_again.reason c.if-self-eq0.false c.in-Ok.ensures.value o; within = tt }
+pub returns-in_err-work_again-clause-value : goal.returns-in_err-work_again-clause-value
+returns-in_err-work_again-clause-value g c =
+    let a = c.args.self.now in
+    let place = c.in_ok-place.place in
+    let reason = c.in_err-work_again.field-0.0 in
+    let o = ruled_err (unamendable a.house a.state.last place c.args.reading) (period_bills (g.R.Sharing.shares a.rule) a.house (reread a.state.last place c.args.reading)) reason c.in_err-work_again.ensures.value in
+    let p = err_from_is_err_and c.from_residual-in_err-work_again.result c.from_residual-in_err-work_again.ensures.1 in
+    rw (p.1, p.2) (amend_refused a.house a.state c.args.room c.args.reading place reason (rw (← c.self.view_is) c.if-self-eq0.false) c.in_ok-place.ensures.value o)

@@ -1,21 +1,15 @@
-use Rattle.std.proofs.Common.{ap, ◌∙◌}
-use Rattle.house.specs.Houses.{plan_of}
-use Rattle.heat_account.specs.declared.answer.Answer.TheVariants.{Balanced}
-use Rattle.heat_account.specs.declared.call.Call.TheVariants.{Balance}
-use Rattle.heat_account.specs.Judged.{judged}
+use Rattle.std.proofs.Common.{◌≡◌, ℕ, get_or, rules, ap, ◌∙◌}
+use Rattle.heat_account.specs.declared.answer.Answer.TheVariants.{Billed, Balanced}
+use Rattle.heat_account.specs.declared.call.Call.TheVariants.{Bill, Balance}
+use Rattle.heat_account.specs.Judged.{judged, result_of}
 use Rattle.heat_account.specs.Carried.{answer_of}
-use Rattle.heat_account.specs.Tables.{state_of}
 use Rattle.heat_account.proofs.Carrying.{carries, by_mapped, by_kept}
 use Rattle.heat_account.proofs.Account.balance.Goals as goal
 
-pub returns : goal.returns
-returns g c =
+pub returns-clause-ledger : goal.returns-clause-ledger
+returns-clause-ledger g c =
     let a = c.args.self.now in
-    let plan = plan_of a.house in
-    let s = state_of a.tables in
+    let s = a.state in
     let call = Balance c.args.room in
-    let shares = g.R.Sharing.shares a.rule in
-    record {
-      value = c.look_up_balance.ensures;
-      ledger = carries shares (g.met.R.Sharing.fair a.rule) a.house s s call (answer_of Balanced c.look_up_balance.result) (ap (answer_of Balanced) c.look_up_balance.ensures ∙ by_mapped (answer_of Balanced) (judged plan s call) _ _) (by_kept (judged plan s call) s);
-    }
+    let value : c.map_err.result ≡ result_of a.house s call (λ place. get_or s.balances place 0) = search rules in
+    carries (g.R.Sharing.shares a.rule) (g.met.R.Sharing.fair a.rule) a.house c.look_up_balance.ensures.held.lawful s s call _ (ap (answer_of Balanced) value ∙ by_mapped (answer_of Balanced) (judged a.house s call) _ _) (by_kept (judged a.house s call) s)

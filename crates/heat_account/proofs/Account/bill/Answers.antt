@@ -1,21 +1,16 @@
-use Rattle.std.proofs.Common.{ℕ, ap, ◌∙◌}
-use Rattle.house.specs.Houses.{plan_of}
-use Rattle.heat_account.specs.declared.answer.Answer.TheVariants.{Billed}
-use Rattle.heat_account.specs.declared.call.Call.TheVariants.{Bill}
+use Rattle.std.proofs.Common.{◌≡◌, ℕ, slice_index_or, rules, ap, ◌∙◌}
+use Rattle.fault.specs.declared.place.Place.TheVariants.{Room}
+use Rattle.heat_account.specs.declared.answer.Answer.TheVariants.{Billed, Balanced}
+use Rattle.heat_account.specs.declared.call.Call.TheVariants.{Bill, Balance}
 use Rattle.heat_account.specs.Judged.{judged}
 use Rattle.heat_account.specs.Carried.{answer_of}
-use Rattle.heat_account.specs.Tables.{state_of}
-use Rattle.heat_account.proofs.Carrying.{carries, by_mapped, by_kept}
+use Rattle.heat_account.proofs.Carrying.{carries, told_at, by_mapped, by_kept}
 use Rattle.heat_account.proofs.Account.bill.Goals as goal
 
-pub returns : goal.returns
-returns g c =
+pub returns-clause-ledger : goal.returns-clause-ledger
+returns-clause-ledger g c =
     let a = c.args.self.now in
-    let plan = plan_of a.house in
-    let s = state_of a.tables in
+    let s = a.state in
     let call = Bill c.args.room in
-    let shares = g.R.Sharing.shares a.rule in
-    record {
-      value = c.look_up_bill.ensures;
-      ledger = carries shares (g.met.R.Sharing.fair a.rule) a.house s s call (answer_of (λ (b : ℕ × ℕ). Billed b.0 b.1) c.look_up_bill.result) (ap (answer_of (λ (b : ℕ × ℕ). Billed b.0 b.1)) c.look_up_bill.ensures ∙ by_mapped (answer_of (λ (b : ℕ × ℕ). Billed b.0 b.1)) (judged plan s call) _ _) (by_kept (judged plan s call) s);
-    }
+    let value = told_at (judged a.house s call) (Room c.args.room) (λ place. slice_index_or s.bills place (0, 0)) c.look_up_bill.result c.look_up_bill.ensures.value c.map_err.result (λ x e. search rules) (λ reason e. search rules) in
+    carries (g.R.Sharing.shares a.rule) (g.met.R.Sharing.fair a.rule) a.house c.look_up_bill.ensures.held.lawful s s call _ (ap (answer_of (λ (b : ℕ × ℕ). Billed b.0 b.1)) value ∙ by_mapped (answer_of (λ (b : ℕ × ℕ). Billed b.0 b.1)) (judged a.house s call) _ _) (by_kept (judged a.house s call) s)

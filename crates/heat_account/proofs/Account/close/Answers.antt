@@ -1,33 +1,14 @@
-use Rattle.std.proofs.Common.{◌+◌, refl}
-use Rattle.fault.specs.Numbers.{fault_of}
+use Rattle.std.proofs.Common.{◌+◌}
+use Rattle.std.proofs.lemmas.Result.{err_from_is_err_and}
 use Rattle.fault.specs.declared.place.Place.TheVariants.{Nowhere}
-use Rattle.house.specs.Houses.{plan_of}
-use Rattle.heat_account.specs.declared.answer.Answer.TheVariants.{Closed}
 use Rattle.heat_account.specs.declared.call.Call.TheVariants.{Close}
 use Rattle.heat_account.specs.Judged.{judged, told}
-use Rattle.heat_account.specs.Tables.{state_of}
-use Rattle.heat_account.proofs.Carrying.{refused_result, accepted_answer, closed_not_refused}
+use Rattle.heat_account.proofs.Carrying.{refused_alike}
 use Rattle.heat_account.proofs.Account.close.Goals as goal
 
-pub unreachable-requires : goal.unreachable-requires
-unreachable-requires g c =
+pub returns-in_err-periods-clause-value : goal.returns-in_err-periods-clause-value
+returns-in_err-periods-clause-value g c =
     let a = c.args.self.now in
-    let plan = plan_of a.house in
-    let s = state_of a.tables in
     let call = Close c.args.total c.args.common in
-    c.in_default.not-Closed (s.closed + 1) (accepted_answer (judged plan s call) (told plan s call) (λ reason. fault_of reason Nowhere) c.perform.result c.perform.ensures.value (Closed (s.closed + 1)) (λ i. refl) c.in_default.not-Refused)
-
-pub returns-in-Refused : goal.returns-in-Refused
-returns-in-Refused g c =
-    let a = c.args.self.now in
-    let plan = plan_of a.house in
-    let s = state_of a.tables in
-    let call = Close c.args.total c.args.common in
-    let p = c.perform.ensures in
-    record {
-      value = refused_result (judged plan s call) (told plan s call) (λ reason. fault_of reason Nowhere) c.perform.result p.value (λ _. s.closed + 1) c.in-Refused.fault c.in-Refused.is (λ i. closed_not_refused (s.closed + 1) c.in-Refused.fault);
-      after = p.after;
-      house = p.house;
-      rule = p.rule;
-      ledger = c.in-Refused.ensures.ledger;
-    }
+    let p = err_from_is_err_and c.from_residual.result c.from_residual.ensures.1 in
+    rw (p.1, p.2) (refused_alike (judged a.house a.state call) Nowhere (told a.house a.state call) (λ _. a.state.closed + 1) c.in_err-periods.field-0.0 c.in_err-periods.ensures.value)

@@ -8,6 +8,4 @@ returns-else-i-answers g c =
     record {
       answer = sym (set_past c.args.answers.now c.args.i _ c.if-i-answers.false);
       after = p.after;
-      house = p.house;
-      rule = p.rule;
     }

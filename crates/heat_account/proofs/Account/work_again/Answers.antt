@@ -1,5 +1,4 @@
 use Rattle.std.proofs.Common.{◌≡◌, ℕ, List, set, Some, Option, ap, ◌∙◌}
-use Rattle.house.specs.Houses.{plan_of}
 use Rattle.billing.specs.Counting.{counted}
 use Rattle.billing.specs.Period.{refusal, bills}
 use Rattle.billing.specs.Worked.{ruled}
@@ -7,13 +6,15 @@ use Rattle.heat_account.specs.Tables.{state_of}
 use Rattle.heat_account.proofs.LedgerLaws.{small_refusal}
 use Rattle.heat_account.proofs.Account.work_again.Goals as goal
 
-pub returns : goal.returns
-returns g c =
-    let plan = plan_of c.args.self.now.house in
-    let s = state_of c.args.self.now.tables in
-    let shares = g.R.Sharing.shares c.args.self.now.rule in
-    let readings : c.as_slice.result.now ≡ set s.last.readings c.args.place (Some c.args.reading) =
-    c.as_slice.ensures ∙ c.set.ensures.after ∙ ap (λ (v : List (Option ℕ)). set v c.args.place (Some c.args.reading)) c.copy_from.ensures in
-    c.work_out.ensures
-    ∙ ap (λ (v : List (Option ℕ)). ruled (refusal plan.method (counted plan.rooms v) s.last.total s.last.common) (bills shares plan.method (counted plan.rooms v) s.last.total s.last.common)) readings
-    ∙ ap (λ o. ruled o (bills shares plan.method (counted plan.rooms (set s.last.readings c.args.place (Some c.args.reading))) s.last.total s.last.common)) (small_refusal plan.method (counted plan.rooms (set s.last.readings c.args.place (Some c.args.reading))) s.last.total s.last.common c.args.self.now.small.0 c.args.self.now.small.1)
+pub returns-clause-value : goal.returns-clause-value
+returns-clause-value g c =
+    let a = c.self.inside in
+    let plan = a.house in
+    let last = (state_of a.tables).last in
+    let reread = set last.readings c.args.place (Some c.args.reading) in
+    let readings : c.as_slice.result.now ≡ reread =
+    c.as_slice.ensures.value ∙ c.set.ensures.after ∙ ap (λ (v : List (Option ℕ)). set v c.args.place (Some c.args.reading)) c.copy_from.ensures in
+    rw (← c.self.view_is) (
+      c.work_out.ensures
+      ∙ ap (λ (v : List (Option ℕ)). ruled (refusal plan.method (counted plan.rooms v) last.total last.common) (bills (g.R.Sharing.shares a.rule) plan.method (counted plan.rooms v) last.total last.common)) readings
+      ∙ ap (λ o. ruled o (bills (g.R.Sharing.shares a.rule) plan.method (counted plan.rooms reread) last.total last.common)) (small_refusal plan.method (counted plan.rooms reread) last.total last.common c.self.invariant.small.0 c.self.invariant.small.1))

@@ -2,7 +2,6 @@ use Rattle.std.proofs.Common.{◌≡◌, ℕ, min, length, set, replicate, ℤ, 
 use lib.ListN.{length-replicate}
 use Rattle.std.proofs.lemmas.List.{take_all}
 use Rattle.std.proofs.lemmas.Int.{to_z-of_z}
-use Rattle.tables.specs.Held.{table_items}
 use Rattle.heat_account.specs.Changes.{each_change}
 use Rattle.heat_account.proofs.Merges.{merged, merged_none, merged_written}
 use Rattle.heat_account.proofs.ChangeLaws.{length_each_change, each_change_at, merged_over}
@@ -19,9 +18,9 @@ loop-i-preserved c =
     let old = c.args.old.now in
     let new = c.args.new.now in
     let i = c.loop-i.i in
-    let now = table_items c.loop-i.changes in
+    let now = c.loop-i.changes in
     let here = to_z-of_z w64 c.change_between.result (record { sfits = c.change_between.type_inv }) ∙ c.change_between.ensures ∙ sym (each_change_at old new i c.requires.long) in
-    merged_written (λ _ (z : ℤ). z) (replicate (length old) (pos 0)) (each_change old new) i now now c.loop-i.invariant refl (table_items c.set.new.self) (pos 0) (pos 0) (omega (arith, length_each_change old new c.requires.long))
+    merged_written (λ _ (z : ℤ). z) (replicate (length old) (pos 0)) (each_change old new) i now now c.loop-i.invariant refl c.set.new.self (pos 0) (pos 0) (omega (arith, length_each_change old new c.requires.long))
     (c.set.ensures.after ∙ ap (λ (z : ℤ). set now i z) here)
 
 pub returns : goal.returns

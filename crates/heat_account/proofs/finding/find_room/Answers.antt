@@ -1,18 +1,15 @@
-use Rattle.heat_account.proofs.FoundRooms.{found_here, found_next, found_none}
+use Rattle.std.proofs.Common.{sym, rules}
+use Rattle.std.proofs.lemmas.List.Sorted.{answers_always}
 use Rattle.house.specs.declared.room.Kind.TheVariants.{Metered}
+use Rattle.heat_account.proofs.FoundRooms.{halved_ok, halved_err}
 use Rattle.heat_account.proofs.finding.find_room.Goals as goal
 
-pub returns-then-room-number : goal.returns-then-room-number
-returns-then-room-number c = record {
-  value = found_here c.args.rooms.now c.loop-i.i c.args.number _ _ c.loop-i.invariant c.loop-i-test.true c.if-room-number.true;
-  within = c.loop-i-test.true;
-}
+pub returns-in-Ok-clause-value : goal.returns-in-Ok-clause-value
+returns-in-Ok-clause-value c =
+    let facts = c.in-Ok.ensures in
+    sym (halved_ok c.args.rooms.now c.requires c.args.number (record { number = 0; area = 0; kind = Metered }) c.in-Ok.place facts.bound (facts.position (λ r. r.number) (answers_always _ _ _ (λ f a r g called. search rules))))
 
-pub loop-i-preserved : goal.loop-i-preserved
-loop-i-preserved c = found_next c.args.rooms.now c.loop-i.i c.args.number _ _ c.loop-i.invariant c.loop-i-test.true c.if-room-number.false
-
-pub returns : goal.returns
-returns c = record {
-  value = found_none c.args.rooms.now c.loop-i.i c.args.number (record { number = 0; area = 0; kind = Metered }) _ c.loop-i.invariant c.loop-i-test.false;
-  within = tt;
-}
+pub returns-in-Err-clause-value : goal.returns-in-Err-clause-value
+returns-in-Err-clause-value c =
+    let facts = c.in-Err.ensures in
+    sym (halved_err c.args.rooms.now c.requires c.args.number (record { number = 0; area = 0; kind = Metered }) c.in-Err.field-0 facts.bound (facts.position (λ r. r.number) (answers_always _ _ _ (λ f a r g called. search rules))))
