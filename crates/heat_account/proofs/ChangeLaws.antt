@@ -10,6 +10,7 @@ use Rattle.billing.proofs.HouseLaws.{lawful_counted}
 use Rattle.heat_account.specs.declared.stage.Stage.{Stage}
 use Rattle.heat_account.specs.declared.stage.Stage.TheVariants.{Taking, Correcting}
 use Rattle.heat_account.specs.State.{Period, State, period_bills, reread, unbilled, corrected}
+use Rattle.heat_account.specs.Pairs.{Made}
 use Rattle.heat_account.specs.Kept.{stands}
 use Rattle.heat_account.specs.Ledger.{Correction, latest_bills, figured, ledger_after}
 use Rattle.heat_account.specs.Changes.{change, each_change, changes, Moves, Evens}
@@ -18,7 +19,6 @@ use Rattle.heat_account.proofs.Entries.{billed_at, unbilled_at}
 use Rattle.heat_account.specs.Kept.{Holds}
 use Rattle.heat_account.proofs.KeptLaws.{bills_long, clear_facts}
 use Rattle.heat_account.proofs.LedgerLaws.{Correctable, sound_after}
-use Rattle.heat_account.proofs.Merges.{merged}
 
 pub length_each_change : (olds news : List (ℕ × ℕ)) → length news ≡ length olds → length (each_change olds news) ≡ length olds
 length_each_change [] news e = refl
@@ -32,12 +32,12 @@ each_change_at (old ∷ olds) [] k e = absurd (omega arith)
 each_change_at (old ∷ olds) (new ∷ news) zero e = refl
 each_change_at (old ∷ olds) (new ∷ news) (suc k) e = each_change_at olds news k (omega arith)
 
--- a list of the same length takes the place of all that stood there
-pub merged_over : (xs ys : List ℤ) → length ys ≡ length xs → merged (λ _ (z : ℤ). z) xs ys ≡ ys
-merged_over [] [] e = refl
-merged_over [] (y ∷ ys) e = absurd (omega arith)
-merged_over (x ∷ xs) [] e = absurd (omega arith)
-merged_over (x ∷ xs) (y ∷ ys) e = ap (λ v. y ∷ v) (merged_over xs ys (omega arith))
+pub made_changes : (olds news : List (ℕ × ℕ)) (zs : List ℤ) → length news ≡ length olds → Made (λ old new z. z ≡ change old new) olds news zs → zs ≡ each_change olds news
+made_changes [] news [] e m = refl
+made_changes [] news (z ∷ zs) e m = absurd m
+made_changes (old ∷ olds) [] zs e m = absurd (omega arith)
+made_changes (old ∷ olds) (new ∷ news) [] e m = absurd m
+made_changes (old ∷ olds) (new ∷ news) (z ∷ zs) e (h, m) = let r = made_changes olds news zs (omega arith) m in cc
 
 all_changes : (z : ℤ) (olds news : List (ℕ × ℕ)) → length news ≡ length olds → fold ◌+ℤ◌ z (each_change olds news) ≡ z +ℤ (pos (sum_by figures news) -ℤ pos (sum_by figures olds))
 all_changes z [] [] e = omega (arith, ints)

@@ -1,7 +1,7 @@
 pub mod Balances
 pub mod LedgerLaws
 pub mod FoundRooms
-pub mod Merges
+pub mod Makings
 pub mod Entries
 pub mod KeptLaws
 pub mod Carrying

@@ -1,3 +1,4 @@
+pub mod Pairs
 pub mod State
 pub mod Tables
 pub mod Kept

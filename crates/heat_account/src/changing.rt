@@ -6,6 +6,8 @@ ghost use Rattle.heat_account.specs.Changes.{change, each_change, changes, chang
 ghost use Rattle.heat_account.specs.declared.stage.Stage.TheVariants.{Correcting};
 
 use crate::Account;
+use crate::bill::total;
+use crate::pairing::zip_with;
 use crate::stage::Stage;
 use crate::tables_of::ROOMS;
 use fault::place::Place;
@@ -18,7 +20,7 @@ use tables::Table;
 fn change_between(old: (u32, u32), new: (u32, u32)) -> i64
     ensures { result ≡ change old new }
 {
-    (new.0 as i64 + new.1 as i64) - (old.0 as i64 + old.1 as i64)
+    total(new).cast_signed() - total(old).cast_signed()
 }
 
 fn change_each(old: &[(u32, u32)], new: &[(u32, u32)]) -> Table<i64, ROOMS>
@@ -26,11 +28,7 @@ fn change_each(old: &[(u32, u32)], new: &[(u32, u32)]) -> Table<i64, ROOMS>
     requires few { length old.now ≤ 256 }
     ensures { result ≡ each_change old.now new.now }
 {
-    let mut changes = Table::filled(0, old.len());
-    for (i, bill) in old.iter().enumerate() {
-        changes.set(i, change_between(*bill, new[i]));
-    }
-    changes
+    zip_with(old, new, change_between)
 }
 
 impl<R: Sharing> Account<R> {

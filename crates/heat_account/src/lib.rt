@@ -8,12 +8,14 @@ pub use tables_of::ROOMS;
 use tables_of::Tables;
 
 pub mod answer;
+mod bill;
 pub mod call;
 mod calls;
 mod changing;
 mod effects;
 mod finding;
 mod looking;
+mod pairing;
 pub mod runs;
 pub mod slip;
 mod splitting;

@@ -5,6 +5,8 @@ ghost use Rattle.billing.specs.Period.{figures};
 ghost use Rattle.heat_account.specs.State.{billed, unbilled, no_state, with_reading, with_period, with_amended, with_stage, reread};
 ghost use Rattle.heat_account.specs.Tables.{state_of, period_of};
 
+use crate::bill::total;
+use crate::pairing::zip_with;
 use crate::stage::Stage;
 use house::House;
 use tables::Table;
@@ -31,26 +33,24 @@ pub(crate) struct Tables {
     pub(crate) stage: Stage,
 }
 
-// Adds each room's bill to its balance.
-fn put_on(balances: &mut Table<u64, ROOMS>, bills: &[(u32, u32)])
-    requires long { length bills.now ≡ length balances.old }
-    requires room { (k : ℕ) → slice_index balances.old k < 2 ^ 63 }
-    ensures { balances.new ≡ billed balances.old bills.now }
+// A bill more in each balance.
+fn put_on(balances: &[u64], bills: &[(u32, u32)]) -> Table<u64, ROOMS>
+    requires long { length bills.now ≡ length balances.now }
+    requires few { length balances.now ≤ 256 }
+    requires room { (k : ℕ) → slice_index balances.now k < 2 ^ 63 }
+    ensures { result ≡ billed balances.now bills.now }
 {
-    for (i, (own, common)) in bills.iter().enumerate() {
-        balances.set(i, balances.as_slice()[i] + (*own as u64 + *common as u64));
-    }
+    zip_with(balances, bills, |balance, bill| balance + total(bill))
 }
 
-// Takes each room's bill off its balance.
-fn take_off(balances: &mut Table<u64, ROOMS>, bills: &[(u32, u32)])
-    requires long { length bills.now ≡ length balances.old }
-    requires covered { (k : ℕ) → figures (slice_index_or bills.now k (0, 0)) ≤ slice_index balances.old k }
-    ensures { balances.new ≡ unbilled balances.old bills.now }
+// A bill less.
+fn take_off(balances: &[u64], bills: &[(u32, u32)]) -> Table<u64, ROOMS>
+    requires long { length bills.now ≡ length balances.now }
+    requires few { length balances.now ≤ 256 }
+    requires covered { (k : ℕ) → figures (slice_index_or bills.now k (0, 0)) ≤ slice_index balances.now k }
+    ensures { result ≡ unbilled balances.now bills.now }
 {
-    for (i, (own, common)) in bills.iter().enumerate() {
-        balances.set(i, balances.as_slice()[i] - (*own as u64 + *common as u64));
-    }
+    zip_with(balances, bills, |balance, bill| balance - total(bill))
 }
 
 impl Tables {
@@ -98,7 +98,7 @@ impl Tables {
         self.last.total = total;
         self.last.common = common;
         self.readings = Table::filled(None, self.readings.len());
-        put_on(&mut self.balances, bills.as_slice());
+        self.balances = put_on(self.balances.as_slice(), bills.as_slice());
         self.bills = bills;
         self.closed += 1;
     }
@@ -112,8 +112,8 @@ impl Tables {
         ensures { state_of self.new ≡ with_amended (state_of self.old) (reread (period_of self.old.last) place reading) corrected }
     {
         self.last.readings.set(place, Some(reading));
-        take_off(&mut self.balances, self.bills.as_slice());
-        put_on(&mut self.balances, corrected.as_slice());
+        let before = take_off(self.balances.as_slice(), self.bills.as_slice());
+        self.balances = put_on(before.as_slice(), corrected.as_slice());
         self.bills = corrected;
         self.stage = Stage::Taking;
     }

@@ -106,10 +106,10 @@ impl<R: Sharing> Account<R> {
         ensures value { result ≡ judged self.now.house self.now.state (Bill room) }
         ensures within { IfOk result (λ i. i < length self.now.house.rooms) }
     {
-        if self.tables.closed == 0 {
-            return Err(Reason::NothingClosed);
+        match self.tables.closed {
+            0 => Err(Reason::NothingClosed),
+            _ => self.place(room),
         }
-        self.place(room)
     }
 
     // Own heat and common share of a room's last bill.
