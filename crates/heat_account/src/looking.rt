@@ -1,5 +1,6 @@
 // What an account shows of all rooms, in the order of the house.
-ghost use Rattle.std.specs.Prelude.{◌≡◌, List};
+ghost use Rattle.std.specs.Prelude.{◌≡◌, true, List};
+ghost use Rattle.house.specs.Plan.{lawful};
 ghost use Rattle.heat_account.specs.Ledger.{balances, latest_bills, ledger_after, Stands};
 ghost use Rattle.heat_account.specs.declared.call.Call.{Call};
 
@@ -9,7 +10,8 @@ use sharing::rule::Sharing;
 
 impl<R: Sharing> Account<R> {
     pub fn rooms(&self) -> &[Room]
-        ensures { result.now ≡ self.now.house.rooms }
+        ensures value { result.now ≡ self.now.house.rooms }
+        ensures lawful { lawful self.now.house.number self.now.house.method self.now.house.rooms ≡ true }
     {
         self.house.rooms()
     }

@@ -1,9 +1,7 @@
 -- An account and its ledger over the calls of an event.
-use Rattle.std.proofs.Common.{◌≡◌, List, [], ◌∷◌, ◌++◌, Some, None, fold, Option, sym, refl, ◌∙◌, subst, append_assoc, append-nil}
+use Rattle.std.proofs.Common.{◌≡◌, true, List, [], ◌∷◌, ◌++◌, Some, None, fold, Option, sym, refl, ◌∙◌, subst, append_assoc, append-nil}
 use Rattle.sharing.specs.Rule.{Shares, Fair}
-use Rattle.house.specs.Plan.{Plan}
-use Rattle.house.specs.Houses.{plan_of}
-use Rattle.house.specs.declared.House.{House}
+use Rattle.house.specs.Plan.{Plan, lawful}
 use Rattle.heat_account.specs.declared.call.Call.{Call}
 use Rattle.heat_account.specs.State.{State}
 use Rattle.heat_account.specs.Judged.{after}
@@ -25,7 +23,7 @@ line_folded : (shares : Shares) (plan : Plan) (s : State) (event : Option Event)
 line_folded shares plan s None = refl
 line_folded shares plan s (Some event) = refl
 
-pub line_goes : (shares : Shares) (fair : Fair shares) (house : House) (s s' : State) (event : Option Event) → s' ≡ line_after shares (plan_of house) s event → (calls : List Call) → Stands shares (plan_of house) s calls → Goes shares (plan_of house) s' (calls ++ line_calls (plan_of house) s event)
-line_goes shares fair house s s' event e calls at =
-    goes_along shares fair house s' (calls ++ line_calls (plan_of house) s event)
-    (stands_through shares (plan_of house) s s' calls (line_calls (plan_of house) s event) at (e ∙ line_folded shares (plan_of house) s event))
+pub line_goes : (shares : Shares) (fair : Fair shares) (plan : Plan) (law : lawful plan.number plan.method plan.rooms ≡ true) (s s' : State) (event : Option Event) → s' ≡ line_after shares plan s event → (calls : List Call) → Stands shares plan s calls → Goes shares plan s' (calls ++ line_calls plan s event)
+line_goes shares fair plan law s s' event e calls at =
+    goes_along shares fair plan law s' (calls ++ line_calls plan s event)
+    (stands_through shares plan s s' calls (line_calls plan s event) at (e ∙ line_folded shares plan s event))

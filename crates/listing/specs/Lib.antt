@@ -1,1 +1,2 @@
 pub mod Performed
+pub mod Outcomes

@@ -1,10 +1,8 @@
 // A correction from its late reading to the end of its slip.
 ghost use Rattle.std.specs.Prelude.{◌≡◌, true};
-ghost use Rattle.tables.specs.Held.{table_items};
-ghost use Rattle.house.specs.Houses.{plan_of};
-ghost use Rattle.heat_account.specs.Judged.{after, correcting, fits, result_of};
-ghost use Rattle.heat_account.specs.Tables.{state_of};
-ghost use Rattle.heat_account.specs.Changes.{changes, held_changes};
+ghost use Rattle.heat_account.specs.State.{with_state};
+ghost use Rattle.heat_account.specs.Judged.{after, correcting, fits, performed, result_of};
+ghost use Rattle.heat_account.specs.Changes.{changes};
 ghost use Rattle.heat_account.specs.declared.call.Call.TheVariants.{Correct};
 ghost use Rattle.events.specs.declared.event.Event.TheVariants as events;
 ghost use Rattle.listing.specs.Performed.{ending_call, after_event};
@@ -18,21 +16,16 @@ use tables::Table;
 
 // The change of each room's bill by the correction that is open.
 fn open_changes<R: Sharing>(account: &Account<R>) -> Table<i64, ROOMS>
-    requires { correcting (state_of account.now.tables).stage ≡ true }
-    ensures { table_items result ≡ changes (R.shares account.now.rule) (plan_of account.now.house) (state_of account.now.tables) }
+    requires { correcting account.now.state.stage ≡ true }
+    ensures { result ≡ changes (R.shares account.now.rule) account.now.house account.now.state }
 {
-    match account.changes() {
-        Ok(changes) => changes,
-        // Refused only where nothing is being corrected.
-        Err(_) => unreachable(),
-    }
+    // Refused only where nothing is being corrected.
+    account.changes().unwrap()
 }
 
 fn end_correction<R: Sharing>(account: &mut Account<R>, slip: Slip, ending: Ending)
-    requires { fits (plan_of account.old.house) (state_of account.old.tables) slip.house slip.period ≡ true }
-    ensures after { state_of account.new.tables ≡ after (R.shares account.old.rule) (plan_of account.old.house) (state_of account.old.tables) (ending_call ending slip.house slip.period) }
-    ensures house { account.new.house ≡ account.old.house }
-    ensures rule { account.new.rule ≡ account.old.rule }
+    requires { fits account.old.house account.old.state slip.house slip.period ≡ true }
+    ensures after { account.new ≡ performed (R.shares account.old.rule) account.old (ending_call ending slip.house slip.period) }
 {
     let ended = match ending {
         Ending::Book => account.book(slip),
@@ -52,17 +45,11 @@ pub(crate) fn correct<R: Sharing>(
     reading: u32,
     ending: Ending,
 ) -> Result<Table<i64, ROOMS>, Fault>
-    ensures value { held_changes result ≡ result_of (plan_of account.old.house) (state_of account.old.tables) (Correct room reading) (λ _. changes (R.shares account.old.rule) (plan_of account.old.house) (after (R.shares account.old.rule) (plan_of account.old.house) (state_of account.old.tables) (Correct room reading))) }
-    ensures after { state_of account.new.tables ≡ after_event (R.shares account.old.rule) (plan_of account.old.house) (state_of account.old.tables) (events.Correct room reading ending) }
-    ensures house { account.new.house ≡ account.old.house }
-    ensures rule { account.new.rule ≡ account.old.rule }
+    ensures value { result ≡ result_of account.old.house account.old.state (Correct room reading) (λ _. changes (R.shares account.old.rule) account.old.house (after (R.shares account.old.rule) account.old.house account.old.state (Correct room reading))) }
+    ensures after { account.new ≡ with_state account.old (after_event (R.shares account.old.rule) account.old.house account.old.state (events.Correct room reading ending)) }
 {
-    match account.correct(room, reading) {
-        Ok(slip) => {
-            let changes = open_changes(account);
-            end_correction(account, slip, ending);
-            Ok(changes)
-        }
-        Err(fault) => Err(fault),
-    }
+    let slip = account.correct(room, reading)?;
+    let changes = open_changes(account);
+    end_correction(account, slip, ending);
+    Ok(changes)
 }

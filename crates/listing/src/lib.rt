@@ -2,6 +2,7 @@
 #![tactic(auto)]
 
 mod correcting;
+mod outcome;
 pub mod performing;
 #[cfg(test)]
 mod tests;

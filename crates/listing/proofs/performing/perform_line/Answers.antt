@@ -1,25 +1,16 @@
-use Rattle.std.proofs.Common.{◌≡◌, ◌++◌, IfOk, string_bytes, Option, ap, ◌∙◌, subst}
-use Rattle.house.specs.Houses.{plan_of}
-use Rattle.heat_account.specs.Tables.{state_of}
+use Rattle.std.proofs.Common.{◌≡◌, true, ap, ◌∙◌, subst}
+use Rattle.house.specs.Plan.{Plan, lawful}
 use Rattle.events.specs.Events.{event_of}
-use Rattle.events.specs.declared.event.Event.{Event}
-use Rattle.listing.specs.Performed.{line_after, line_printed}
+use Rattle.listing.specs.Performed.{line_after}
 use Rattle.listing.proofs.EventLaws.{line_goes}
 use Rattle.listing.proofs.performing.perform_line.Goals as goal
 
-pub returns : goal.returns
-returns g c =
+pub returns-clause-ledger : goal.returns-clause-ledger
+returns-clause-ledger g c =
     let a = c.args.account.now in
-    let plan = plan_of a.house in
-    let s = state_of a.tables in
     let shares = g.R.Sharing.shares a.rule in
-    let said = c.read_event.ensures in
-    let was = c.perform_or_refuse.ensures in
-    let after = was.after ∙ ap (line_after shares plan s) said in
-    record {
-      value = subst (λ (v : Option Event). IfOk c.perform_or_refuse.result (λ _. string_bytes c.perform_or_refuse.new.out ≡ string_bytes c.args.out.now ++ line_printed shares plan s v)) said was.value;
-      after = after;
-      house = was.house;
-      rule = was.rule;
-      ledger = line_goes shares (g.met.R.Sharing.fair a.rule) a.house s (state_of c.perform_or_refuse.new.account.tables) (event_of c.args.line.now) after;
-    }
+    let was = c.perform_said-outcome.ensures.after in
+    let house = ap (λ v. v.house) was in
+    let law = subst (λ (plan : Plan). lawful plan.number plan.method plan.rooms ≡ true) house c.print_outcome.ensures.lawful in
+    let after = ap (λ v. v.state) was ∙ ap (line_after shares a.house a.state) c.read_event.ensures in
+    line_goes shares (g.met.R.Sharing.fair a.rule) a.house law a.state c.perform_said-outcome.new.account.state (event_of c.args.line.now) after
