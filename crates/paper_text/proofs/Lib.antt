@@ -1,2 +1,2 @@
-pub mod Joining
-pub mod Papers
+pub mod Puts
+pub mod Short

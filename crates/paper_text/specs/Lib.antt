@@ -1,2 +1,2 @@
 pub mod Text
-pub mod Putting
+pub mod Page

@@ -1,5 +1,6 @@
 -- The paper of a house, byte by byte, and what writing it gives and leaves.
-use Rattle.std.specs.Prelude.{ℕ, cond, List, [], ◌∷◌, ◌++◌, length, drop, Ok, Err, codes, decimal, Result, nat_lt}
+use Rattle.std.specs.Prelude.{ℕ, if◌then◌else◌, List, ◌++◌, length, drop, Ok, Err, codes, decimal, Result, nat_lt}
+use Rattle.std.specs.List.{flat_map}
 use Rattle.fault.specs.Numbers.{fault_of}
 use Rattle.fault.specs.declared.place.Place.TheVariants.{Nowhere}
 use Rattle.fault.specs.declared.reason.Reason.TheVariants.{BufferTooShort}
@@ -38,9 +39,9 @@ detached_word = codes "detached "
 abbrev pub blank : List ℕ
 blank = codes " "
 
--- the end of a line, with its byte 10
+-- the end of a line
 abbrev pub closing : List ℕ
-closing = codes "))" ++ 10 ∷ []
+closing = codes "))\n"
 
 -- from the bracket on, to the end of the line
 abbrev pub method_text : Method → List ℕ
@@ -59,16 +60,15 @@ abbrev pub room_line : Room → List ℕ
 room_line room = room_word ++ (decimal room.number ++ (opening ++ kind_text room.kind room.area))
 
 abbrev pub room_lines : List Room → List ℕ
-room_lines [] = []
-room_lines (room ∷ rooms) = room_line room ++ room_lines rooms
+room_lines rooms = flat_map room_line rooms
 
 abbrev pub paper_text : Plan → List ℕ
 paper_text plan = house_line plan.number plan.method ++ room_lines plan.rooms
 
 -- what a buffer holds once the text is written into it: a short one what it held
 abbrev pub written : List ℕ → List ℕ → List ℕ
-written text held = cond (nat_lt (length held) (length text)) held (text ++ drop (length text) held)
+written text held = if nat_lt (length held) (length text) then held else text ++ drop (length text) held
 
 -- and what the writer is told: the text's length
 abbrev pub told : List ℕ → List ℕ → Result ℕ Fault
-told text held = cond (nat_lt (length held) (length text)) (Err (fault_of BufferTooShort Nowhere)) (Ok (length text))
+told text held = if nat_lt (length held) (length text) then Err (fault_of BufferTooShort Nowhere) else Ok (length text)

@@ -12,7 +12,7 @@ use house::House;
 use lines::put_house;
 
 mod lines;
-mod putting;
+mod page;
 #[cfg(test)]
 mod tests;
 

@@ -1,6 +1,7 @@
 -- The lines that are printed, byte by byte.
 use Rattle.std.specs.Prelude.{ℕ, ◌+◌, List, [], ◌∷◌, ◌++◌, length, take, ℤ, codes, decimal, sum_by}
 use Rattle.std.specs.Fmt.{signed_decimal}
+use Rattle.std.specs.List.{flat_map, zip}
 use Rattle.fault.specs.Numbers.{number}
 use Rattle.fault.specs.declared.place.Place.{Place}
 use Rattle.fault.specs.declared.place.Place.TheVariants as places
@@ -9,7 +10,7 @@ use Rattle.house.specs.declared.room.Room.{Room}
 
 -- the parts of a form after its first word, each behind a blank, to the end of the line
 abbrev pub parts_text : List (List ℕ) → List ℕ
-parts_text [] = codes ")" ++ 10 ∷ []
+parts_text [] = codes ")\n"
 parts_text (part ∷ parts) = codes " " ++ (part ++ parts_text parts)
 
 -- a line is one form
@@ -55,9 +56,7 @@ sum_line n = form (codes "sum") (decimal n ∷ [])
 
 -- a line for each room, from its entry in a list beside the rooms; the shorter list counts
 abbrev pub lines : {X : Type 0} → (Room → X → List ℕ) → List Room → List X → List ℕ
-lines line [] entries = []
-lines line (room ∷ rooms) [] = []
-lines line (room ∷ rooms) (entry ∷ entries) = line room entry ++ lines line rooms entries
+lines line rooms entries = flat_map (λ pair. line pair.0 pair.1) (zip rooms entries)
 
 -- the sum of an amount over the entries that have a room
 abbrev pub sum_of : {X : Type 0} → (X → ℕ) → List Room → List X → ℕ

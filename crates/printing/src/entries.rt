@@ -7,6 +7,7 @@ use house::room::Room;
 use std::alloc::AllocError;
 
 // What a room has in such a list, as it is printed.
+// No `Display` newtype for each line: it would be made and written at one place.
 pub(crate) trait Entry {
     ghost line: { Room → Self → List ℕ };
 
@@ -26,9 +27,8 @@ impl Entry for (u32, u32) {
     ghost line = { bill_line };
 
     fn print(&self, out: &mut String, room: &Room) -> Result<(), AllocError> {
-        let number = room.number;
         let (own, common) = *self;
-        write!(out, "(bill {number} {own} {common})\n").or(Err(AllocError))
+        writeln!(out, "(bill {} {own} {common})", room.number)
     }
 }
 
@@ -36,7 +36,7 @@ impl Amount for (u32, u32) {
     ghost amount = { billed };
 
     fn amount(&self) -> u64 {
-        self.0 as u64 + self.1 as u64
+        u64::from(self.0) + u64::from(self.1)
     }
 }
 
@@ -44,8 +44,7 @@ impl Entry for i64 {
     ghost line = { change_line };
 
     fn print(&self, out: &mut String, room: &Room) -> Result<(), AllocError> {
-        let number = room.number;
-        write!(out, "(change {number} {self})\n").or(Err(AllocError))
+        writeln!(out, "(change {} {self})", room.number)
     }
 }
 
@@ -53,8 +52,7 @@ impl Entry for u64 {
     ghost line = { balance_line };
 
     fn print(&self, out: &mut String, room: &Room) -> Result<(), AllocError> {
-        let number = room.number;
-        write!(out, "(balance {number} {self})\n").or(Err(AllocError))
+        writeln!(out, "(balance {} {self})", room.number)
     }
 }
 
@@ -84,18 +82,18 @@ pub(crate) fn print_lines<E: Entry>(
 fn sum_of<E: Amount>(rooms: &[Room], entries: &[E]) -> u128
     ensures { result ≡ sum_of E.Amount.amount rooms.now entries.now }
 {
-    let mut sum = 0u128;
-    for entry in &entries[..entries.len().min(rooms.len())] {
-        sum += entry.amount() as u128;
-    }
-    sum
+    entries
+        .iter()
+        .take(rooms.len())
+        .map(|entry| u128::from(entry.amount()))
+        .sum()
 }
 
 fn print_sum<E: Amount>(out: &mut String, rooms: &[Room], entries: &[E]) -> Result<(), AllocError>
     ensures { OnOk result (string_bytes out.new ≡ string_bytes out.old ++ sum_line (sum_of E.Amount.amount rooms.now entries.now)) }
 {
     let sum = sum_of(rooms, entries);
-    write!(out, "(sum {sum})\n").or(Err(AllocError))
+    writeln!(out, "(sum {sum})")
 }
 
 // The lines, and under them the sum of the entries that were printed.

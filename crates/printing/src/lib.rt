@@ -19,7 +19,7 @@ mod tests;
 pub fn print_rule(out: &mut String, title: &str) -> Result<(), AllocError>
     ensures value { OnOk result (string_bytes out.new ≡ string_bytes out.old ++ rule_line title.now) }
 {
-    write!(out, "(rule {title})\n").or(Err(AllocError))
+    writeln!(out, "(rule {title})")
 }
 
 pub fn print_done(out: &mut String) -> Result<(), AllocError>
@@ -32,20 +32,18 @@ pub fn print_done(out: &mut String) -> Result<(), AllocError>
 pub fn print_refused(out: &mut String, fault: Fault) -> Result<(), AllocError>
     ensures value { OnOk result (string_bytes out.new ≡ string_bytes out.old ++ refused_line (number fault.reason)) }
 {
-    let number = fault.number();
-    write!(out, "(refused {number})\n").or(Err(AllocError))
+    writeln!(out, "(refused {})", fault.number())
 }
 
 // That the paper is refused, and where.
 pub fn print_refused_paper(out: &mut String, fault: Fault) -> Result<(), AllocError>
     ensures value { OnOk result (string_bytes out.new ≡ string_bytes out.old ++ refused_paper_line fault) }
 {
-    let number = fault.number();
     let (line, column) = match fault.place {
         Place::Text { line, column } => (line, column),
         Place::Room(_) | Place::Nowhere => (0, 0),
     };
-    write!(out, "(refused {number} {line} {column})\n").or(Err(AllocError))
+    writeln!(out, "(refused {} {line} {column})", fault.number())
 }
 
 // Own heat and common share of each room, and the sum of all of them.

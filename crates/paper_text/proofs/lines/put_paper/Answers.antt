@@ -1,9 +1,12 @@
-use Rattle.std.proofs.Common.{arith}
-use Rattle.paper_text.proofs.Joining.{then}
-use Rattle.paper_text.proofs.Papers.{put_written}
+use Rattle.std.proofs.Common.{rules}
+use Rattle.paper_text.proofs.Puts.{then, len_all, bytes_all}
+use Rattle.paper_text.proofs.Short.{paper_short}
 use Rattle.paper_text.proofs.lines.put_paper.Goals as goal
 
 pub returns : goal.returns
 returns c =
-    let p = then c.put_house_line-at.ensures.put c.put_rooms.ensures in
-    record { value = omega (arith, p.place); after = put_written _ _ p }
+    let few = paper_short _ _ _ c.requires in
+    let p = then c.put_house_line.ensures c.put_rooms.ensures in
+    let len = len_all _ c.new-page.ensures.empty few p in
+    let bytes = bytes_all _ c.new-page.ensures.empty few p in
+    search rules

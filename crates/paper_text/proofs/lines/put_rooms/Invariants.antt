@@ -1,9 +1,7 @@
-use Rattle.std.proofs.Common.{◌+◌, ◌*◌, ◌≤◌, take}
+use Rattle.std.proofs.Common.{take}
 use Rattle.paper_text.specs.Text.{room_lines}
-use Rattle.paper_text.specs.Putting.{Put}
+use Rattle.paper_text.specs.Page.{Put}
 use Rattle.paper_text.proofs.lines.put_rooms.Given as goal
 
 abbrev pub invariant-loop-room : goal.invariant-loop-room
-invariant-loop-room l =
-    Put (room_lines (take l.room-index l.rooms)) l.at l.initial.buffer l.end l.buffer
-    × (l.end ≤ 64 + 64 * l.room-index)
+invariant-loop-room l = Put (room_lines (take l.room-index l.rooms)) l.initial.page l.page

@@ -1,0 +1,5 @@
+use Rattle.paper_text.proofs.Puts.{then}
+use Rattle.paper_text.proofs.page.Page.put_framed.Goals as goal
+
+pub returns : goal.returns
+returns c = then c.put.ensures (then c.put_number.ensures c.put-2.ensures)
