@@ -1,7 +1,6 @@
 // The lines of a paper, in the order in which they stand.
 ghost use Rattle.std.specs.Prelude.{◌≡◌, ◌≤◌, ◌++◌, length, true};
 ghost use Rattle.house.specs.declared.room.Kind.TheVariants.{Detached};
-ghost use Rattle.house.specs.Houses.{plan_of};
 ghost use Rattle.house.specs.Plan.{lawful};
 ghost use Rattle.paper_text.specs.Page.{Put};
 ghost use Rattle.paper_text.specs.Text.{house_line, kind_text, method_text, paper_text, room_line, room_lines, written};
@@ -77,8 +76,8 @@ fn put_paper(buffer: &mut [u8], number: u32, method: Method, rooms: &[Room]) -> 
 
 // The same of a house's own paper.
 pub(crate) fn put_house(buffer: &mut [u8], house: &House) -> usize
-    ensures value { result ≡ length (paper_text (plan_of house.now)) }
-    ensures after { result ≤ length buffer.old → buffer.new ≡ written (paper_text (plan_of house.now)) buffer.old }
+    ensures value { result ≡ length (paper_text house.now) }
+    ensures after { result ≤ length buffer.old → buffer.new ≡ written (paper_text house.now) buffer.old }
 {
     put_paper(buffer, house.number(), house.method(), house.rooms())
 }
