@@ -1,5 +1,5 @@
 -- What the answer to a sharing tells.
-use Rattle.std.proofs.Common.{◌≡◌, ℕ, ◌<◌, ◌≤◌, List, length, take, drop, Some, None, Ok, Err, sum, Option, refl, ap, ◌∙◌, arith}
+use Rattle.std.proofs.Common.{◌≡◌, ℕ, ◌<◌, ◌≤◌, List, ◌++◌, length, take, drop, Some, None, Ok, Err, sum, Option, refl, ap, ◌∙◌, arith}
 use Rattle.std.proofs.lemmas.List.{take_at}
 use Rattle.std.proofs.lemmas.Bool.Decides.{nat_tests}
 use Rattle.fault.specs.declared.reason.Reason.{Reason}
@@ -31,6 +31,11 @@ accepted total weights room a b c d e = grind (arith, nat_tests)
 pub ok_is_none : {X : Type 0} (o : Option Reason) (x y : X) → answer o x ≡ Ok y → (o ≡ None) × (x ≡ y)
 ok_is_none None x y e = (refl, cc)
 ok_is_none (Some r) x y e = let z : ◌≡◌ {A = ℕ} 0 1 = cc in absurd (omega arith)
+
+-- what an accepted sharing writes to the front of the place
+pub placed_of_ok : {X : Type 0} (o : Option Reason) (x y : X) (written shares old : List ℕ) (n : ℕ) → answer o x ≡ Ok y → written ≡ shares → length shares ≡ n → written ++ drop n old ≡ placed o shares old
+placed_of_ok None x y written shares old n e w l = cc
+placed_of_ok (Some r) x y written shares old n e w l = let z : ◌≡◌ {A = ℕ} 0 1 = cc in absurd (omega arith)
 
 -- a refusal is answered alike whatever the value would be, and leaves the place
 pub err_is_refusal : {X Y : Type 0} (o : Option Reason) (x : X) (y : Y) (f : Fault) → answer o x ≡ Err f → (answer o y ≡ Err f) × ((new old : List ℕ) → placed o new old ≡ old)

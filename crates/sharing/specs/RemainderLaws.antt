@@ -1,12 +1,12 @@
 -- The rule of the largest remainders keeps the laws of a sharing.
-use Rattle.std.specs.Prelude.{◌≡◌, ℕ, zero, suc, ◌+◌, ◌-◌, ◌*◌, ◌/◌, ◌%◌, ◌<◌, ◌≤◌, ◌⊎◌, List, [], ◌∷◌, ◌++◌, length, take, replicate, sum, nat_lt, slice_index, refl}
-use Rattle.std.proofs.Common.{sym, ap, subst, ◌∙◌, inl, inr, ⊎_elim, mul-add, add-mul, div-add-mod', mod-lt, zero-mul, mul-zero, le_of_mul-le-mul_right, mul-le-mul_left, arith}
+use Rattle.std.specs.Prelude.{◌≡◌, ℕ, zero, suc, ◌+◌, ◌-◌, ◌*◌, ◌/◌, ◌%◌, ◌<◌, ◌≤◌, ◌⊎◌, List, [], ◌∷◌, ◌++◌, length, take, replicate, sum, codes, nat_lt, slice_index, refl}
+use Rattle.std.proofs.Common.{sym, ap, subst, ◌∙◌, inl, inr, ⊎_elim, mul-add, add-mul, div-add-mod', mod-lt, zero-mul, mul-zero, le_of_mul-le-mul_right, mul-le-mul_left, rules, arith}
 use Rattle.std.proofs.Math.Nat.{zero-div, zero-mod, div-zero}
 use Rattle.std.proofs.lemmas.List.{map_more, length-map}
 use Rattle.std.proofs.lemmas.List.Sums.{sum_by_push, sum_by-take-le}
 use Rattle.std.specs.List.{AllZip}
 use Rattle.std.proofs.lemmas.Bool.{cases_lt, cases_order, le-ltb, lt-ltb, lt-leb, cond-true, cond-false}
-use Rattle.sharing.specs.Rule.{Fair, Near}
+use Rattle.sharing.specs.Rule.{Fair, Near, Title}
 use Rattle.sharing.specs.Remainders.{floors, rests, odd_units, added, shared_by, remainders}
 use Rattle.sharing.specs.Cutoff.{above, at_least, Cut, unit, spared, dealt}
 use Rattle.sharing.specs.Totals.{sum_cons}
@@ -69,6 +69,10 @@ floors_over_none t (x ∷ ws) = omega (arith, sum_cons (t * x / 0) (floors t 0 w
 pub floors_front_le : (t w : ℕ) (ws : List ℕ) (i : ℕ) → w ≡ sum ws → sum (floors t w (take i ws)) ≤ t
 floors_front_le t zero ws i e = omega (arith, floors_over_none t (take i ws))
 floors_front_le t (suc w) ws i e = floors_sum_le t (suc w) (take i ws) (omega arith) (omega (arith, sum_by-take-le (λ x. x) ws i))
+
+-- a claimant's part fits what the claimants before it leave
+pub floor_fits : (t w : ℕ) (ws : List ℕ) (i : ℕ) → w ≡ sum ws → i < length ws → sum (floors t w (take i ws)) + t * slice_index ws i / w ≤ t
+floor_fits t w ws i e h = omega (arith, floors_front t w ws i h, floors_front_le t w ws (i + 1) e)
 
 -- the units left over, by the code's and the rule's words
 abbrev pub left_over : ℕ → ℕ → List ℕ → ℕ
@@ -199,3 +203,6 @@ remainders_fair = record {
   near = λ t ws pos. near_by t ws pos (some_cut t ws pos).0 (some_cut t ws pos).1;
   none = λ ws e. remainders_nothing (sum ws) ws;
 }
+
+pub remainders_titled : Title (codes "remainders")
+remainders_titled = search rules
