@@ -69,6 +69,7 @@ impl<'a> Pot<'a> {
     }
 
     // The whole units that fall to a weight: none where nobody has a weight.
+    #[tactic(auto, using(crate::specs::Parts::capped))]
     pub(crate) fn floor(&self, weight: u32) -> u32
         requires { weight ≤ sum self.now.weights }
         ensures { result ≡ self.now.total * weight / sum self.now.weights }

@@ -32,6 +32,7 @@ fn count_above(rests: &[u32], limit: u32) -> usize
 }
 
 // The remainder that parts those who get one of the units left over from those who do not, by halving; none is above `most`.
+#[tactic(auto, using(crate::specs::Cutoffs::at_least_none))]
 fn find_cutoff(rests: &[u32], left: usize, most: u32) -> u32
     requires takers { left ≤ length rests.now }
     requires bound { above most rests.now ≡ 0 }
