@@ -32,10 +32,10 @@ pub ok_is_none : {X : Type 0} (o : Option Reason) (x y : X) → answer o x ≡ O
 ok_is_none None x y e = (refl, cc)
 ok_is_none (Some r) x y e = let z : ◌≡◌ {A = ℕ} 0 1 = cc in absurd (omega arith)
 
--- what an accepted sharing writes to the front of the place
-pub placed_of_ok : {X : Type 0} (o : Option Reason) (x y : X) (written shares old : List ℕ) (n : ℕ) → answer o x ≡ Ok y → written ≡ shares → length shares ≡ n → written ++ drop n old ≡ placed o shares old
-placed_of_ok None x y written shares old n e w l = cc
-placed_of_ok (Some r) x y written shares old n e w l = let z : ◌≡◌ {A = ℕ} 0 1 = cc in absurd (omega arith)
+-- what an accepted sharing leaves in the place
+pub placed_of_ok : {X : Type 0} (o : Option Reason) (x y : X) (place shares old : List ℕ) → answer o x ≡ Ok y → place ≡ shares ++ drop (length shares) old → place ≡ placed o shares old
+placed_of_ok None x y place shares old e h = h
+placed_of_ok (Some r) x y place shares old e h = let z : ◌≡◌ {A = ℕ} 0 1 = cc in absurd (omega arith)
 
 -- a refusal is answered alike whatever the value would be, and leaves the place
 pub err_is_refusal : {X Y : Type 0} (o : Option Reason) (x : X) (y : Y) (f : Fault) → answer o x ≡ Err f → (answer o y ≡ Err f) × ((new old : List ℕ) → placed o new old ≡ old)
