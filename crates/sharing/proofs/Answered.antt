@@ -4,23 +4,15 @@ use Rattle.std.proofs.lemmas.List.{take_at}
 use Rattle.std.proofs.lemmas.Bool.Decides.{nat_tests}
 use Rattle.fault.specs.declared.reason.Reason.{Reason}
 use Rattle.fault.specs.declared.refusal.Fault.{Fault}
+use Rattle.sharing.specs.Accepted.{WithinLimits}
 use Rattle.sharing.specs.Refusal.{refusal, answer, placed}
 
-pub record Accepted (total : ℕ) (weights : List ℕ) (room : ℕ) : Type 0 where
-  pub none : refusal total weights room ≡ None
-  pub fits : length weights ≤ room
-  pub few : length weights ≤ 256
-  pub total_small : total ≤ 100000000
-  pub sum_small : sum weights ≤ 100000000
-  pub weighed : 0 < total → 0 < sum weights
-
-pub none_is_accepted : (total : ℕ) (weights : List ℕ) (room : ℕ) → refusal total weights room ≡ None → Accepted total weights room
-none_is_accepted total weights room e = record {
-  none = e;
-  fits = grind (arith, nat_tests);
+pub within_limits : (total : ℕ) (weights : List ℕ) (room : ℕ) → refusal total weights room ≡ None → WithinLimits total weights (sum weights)
+within_limits total weights room e = record {
   few = grind (arith, nat_tests);
-  total_small = grind (arith, nat_tests);
-  sum_small = grind (arith, nat_tests);
+  small = grind (arith, nat_tests);
+  light = grind (arith, nat_tests);
+  summed = refl;
   weighed = λ h. grind (arith, nat_tests);
 }
 

@@ -1,8 +1,8 @@
 -- Odd units by a cutoff: one to each remainder above it, and the rest to the earliest of those at it.
-use Rattle.std.specs.Prelude.{◌≡◌, ℕ, zero, suc, ◌+◌, ◌-◌, ◌<◌, ◌≤◌, Bool, if◌then◌else◌, ◌⊎◌, List, [], ◌∷◌, ◌++◌, length, sum, nat_le, nat_lt, refl}
-use Rattle.std.proofs.Common.{sym, ap, subst, ◌∙◌, append_assoc, inl, inr, ⊎_elim, arith}
+use Rattle.std.specs.Prelude.{◌≡◌, ℕ, zero, suc, ◌+◌, ◌-◌, ◌<◌, ◌≤◌, if◌then◌else◌, List, [], ◌∷◌, ◌++◌, length, sum, nat_le, nat_lt, refl}
+use Rattle.std.proofs.Common.{sym, ap, subst, ◌∙◌, append_assoc, ⊎_elim, arith}
 use Rattle.std.proofs.lemmas.List.Sums.{sum_by-cons, sum_by-append}
-use Rattle.std.proofs.lemmas.Bool.{cases_order, cases_lt, lt-ltb, le-ltb, le-leb, lt-leb, cond-true, cond-false}
+use Rattle.std.proofs.lemmas.Bool.{cases_lt}
 use Rattle.std.proofs.lemmas.Bool.Decides.{nat_tests}
 use Rattle.sharing.specs.Remainders.{ahead, odd_units}
 use Rattle.sharing.specs.Cutoff.{above, at_least, Cut, unit, spared, dealt}
@@ -122,24 +122,16 @@ pub dealt_length : (cutoff spare : ℕ) (rests : List ℕ) → length (dealt cut
 dealt_length k e [] = refl
 dealt_length k e (r ∷ rs) = ap suc (dealt_length k (spared k e r) rs)
 
-above_zero : (cutoff : ℕ) (rests : List ℕ) → above cutoff rests + 0 ≤ at_least cutoff rests
-above_zero k rs = omega (arith, above_le_at_least k rs)
-
 -- each above the cutoff has one unit, and of those at it as many as are spare
 pub dealt_sum : (cutoff spare : ℕ) (rests : List ℕ) → above cutoff rests + spare ≤ at_least cutoff rests → sum (dealt cutoff spare rests) ≡ above cutoff rests + spare
 dealt_sum k e [] h = omega arith
 dealt_sum k e (r ∷ rs) h =
     let a = above_cons k r rs in
     let b = at_least_cons k r rs in
-    ⊎_elim
-    (λ at. ⊎_elim
-    (λ p. ap sum (dealt_at k e r rs at p) ∙ sum_cons 1 (dealt k (e - 1) rs) ∙ (let rec = dealt_sum k (e - 1) rs (grind (arith, nat_tests)) in grind (arith, nat_tests)))
-    (λ z. let none : e ≡ 0 = omega arith in ap (λ v. sum (dealt k v (r ∷ rs))) none ∙ ap sum (dealt_spent k r rs (omega arith)) ∙ sum_cons 0 (dealt k 0 rs) ∙ (let rec = dealt_sum k 0 rs (above_zero k rs) in grind (arith, nat_tests)))
-    (cases_lt 0 e))
-    (⊎_elim
-    (λ lt. ap sum (dealt_below k e r rs lt) ∙ sum_cons 0 (dealt k e rs) ∙ (let rec = dealt_sum k e rs (grind (arith, nat_tests)) in grind (arith, nat_tests)))
-    (λ gt. ap sum (dealt_above k e r rs gt) ∙ sum_cons 1 (dealt k e rs) ∙ (let rec = dealt_sum k e rs (grind (arith, nat_tests)) in grind (arith, nat_tests))))
-    (cases_order r k)
+    let rarer = above_le_at_least k rs in
+    let s = sum_cons (unit k e r) (dealt k (spared k e r) rs) in
+    let rec = dealt_sum k (spared k e r) rs (grind (arith, nat_tests)) in
+    grind (arith, nat_tests)
 
 -- there is a cutoff for any number of units that the claimants can take
 pub cut_below : (bound left : ℕ) (rests : List ℕ) → left ≤ length rests → at_least bound rests ≤ left → (cutoff : ℕ) × Cut left cutoff rests
