@@ -1,9 +1,8 @@
 -- What the answer to a sharing tells.
-use Rattle.std.proofs.Common.{◌≡◌, ℕ, ◌<◌, ◌≤◌, List, ◌++◌, length, take, drop, Some, None, Ok, Err, sum, Option, refl, ap, ◌∙◌, arith}
+use Rattle.std.proofs.Common.{◌≡◌, ℕ, ◌<◌, ◌≤◌, List, ◌++◌, length, take, drop, Some, None, Ok, sum, Option, refl, ap, ◌∙◌, arith}
 use Rattle.std.proofs.lemmas.List.{take_at}
 use Rattle.std.proofs.lemmas.Bool.Decides.{nat_tests}
 use Rattle.fault.specs.declared.reason.Reason.{Reason}
-use Rattle.fault.specs.declared.refusal.Fault.{Fault}
 use Rattle.sharing.specs.Accepted.{WithinLimits}
 use Rattle.sharing.specs.Refusal.{refusal, answer, placed}
 
@@ -28,11 +27,6 @@ ok_is_none (Some r) x y e = let z : ◌≡◌ {A = ℕ} 0 1 = cc in absurd (omeg
 pub placed_of_ok : {X : Type 0} (o : Option Reason) (x y : X) (place shares old : List ℕ) → answer o x ≡ Ok y → place ≡ shares ++ drop (length shares) old → place ≡ placed o shares old
 placed_of_ok None x y place shares old e h = h
 placed_of_ok (Some r) x y place shares old e h = let z : ◌≡◌ {A = ℕ} 0 1 = cc in absurd (omega arith)
-
--- a refusal is answered alike whatever the value would be, and leaves the place
-pub err_is_refusal : {X Y : Type 0} (o : Option Reason) (x : X) (y : Y) (f : Fault) → answer o x ≡ Err f → (answer o y ≡ Err f) × ((new old : List ℕ) → placed o new old ≡ old)
-err_is_refusal None x y f e = let z : ◌≡◌ {A = ℕ} 0 1 = cc in absurd (omega arith)
-err_is_refusal (Some r) x y f e = (cc, λ new old. refl)
 
 -- the front of the place holds the shares
 pub placed_front : (o : Option Reason) (shares old : List ℕ) (n : ℕ) → o ≡ None → length shares ≡ n → take n (placed o shares old) ≡ shares

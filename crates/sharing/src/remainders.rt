@@ -18,6 +18,7 @@ fn write_rests(pot: &Pot, place: &mut [u32]) -> u32
     ensures after { place.new ≡ rests pot.now.total (sum pot.now.weights) pot.now.weights }
 {
     let mut left = pot.total;
+    // By index: a proof knows nothing of what a zip over `iter_mut` has written.
     for (i, weight) in pot.weights.iter().enumerate() {
         left -= pot.floor(*weight);
         place[i] = pot.rest(*weight);
@@ -38,6 +39,7 @@ fn find_cutoff(rests: &[u32], left: usize, most: u32) -> u32
     requires bound { above most rests.now ≡ 0 }
     ensures { Cut left result rests.now }
 {
+    // std's `partition_point` halves a slice, and no range of numbers.
     let mut low = 0;
     let mut high = most;
     while low < high {
@@ -81,6 +83,7 @@ fn write_shares(pot: &Pot, mut odd: OddUnits, place: &mut [u32])
     requires { length place.old ≡ length pot.now.weights }
     ensures { place.new ≡ added (floors pot.now.total (sum pot.now.weights) pot.now.weights) (dealt odd.cutoff odd.spare (rests pot.now.total (sum pot.now.weights) pot.now.weights)) }
 {
+    // By index, as in `write_rests`.
     for (i, weight) in pot.weights.iter().enumerate() {
         place[i] = pot.floor(*weight) + odd.next(pot.rest(*weight));
     }
@@ -106,6 +109,7 @@ impl Sharing for Remainders {
 
     ghost named = { λ rule. remainders_titled };
 
+    // Both rules have these lines: shared, they would need a contract on `spread` that is longer.
     fn share(&self, total: u32, weights: &[u32], place: &mut [u32]) -> Result<(), Fault> {
         let pot = Pot::admit(total, weights, place.len())?;
         spread(&pot, &mut place[..weights.len()]);

@@ -18,6 +18,7 @@ fn spread(pot: &Pot, place: &mut [u32])
 {
     let mut passed = 0;
     let mut before = 0;
+    // By index: a proof knows nothing of what a zip over `iter_mut` has written.
     for (i, weight) in pot.weights.iter().enumerate() {
         passed += *weight;
         let fallen = pot.floor(passed);
@@ -35,6 +36,7 @@ impl Sharing for Running {
 
     ghost named = { λ rule. running_titled };
 
+    // Both rules have these lines: shared, they would need a contract on `spread` that is longer.
     fn share(&self, total: u32, weights: &[u32], place: &mut [u32]) -> Result<(), Fault> {
         let pot = Pot::admit(total, weights, place.len())?;
         spread(&pot, &mut place[..weights.len()]);
