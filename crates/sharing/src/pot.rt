@@ -14,7 +14,7 @@ pub const MOST_CLAIMANTS: usize = 256;
 pub const MOST_UNITS: u32 = 100_000_000;
 
 // A sharing that no rule refuses: a total, the weights that it is shared by, and their sum.
-#[derive(Drop)]
+#[derive(Clone, Drop)]
 pub struct Pot<'a> {
     pub total: u32,
     pub weights: &'a [u32],

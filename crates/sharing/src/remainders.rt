@@ -1,7 +1,7 @@
 ghost use Rattle.std.specs.Prelude.{◌≡◌, ◌-◌, ◌≤◌, length, codes, sum};
-ghost use Rattle.sharing.specs.Remainders.{floors, rests, added, remainders};
-ghost use Rattle.sharing.specs.Cutoff.{above, Cut, unit, spared, dealt};
-ghost use Rattle.sharing.specs.RemainderLaws.{remainders_fair, remainders_titled};
+ghost use Rattle.sharing.specs.Remainders.{floors, rests, remainders};
+ghost use Rattle.sharing.specs.Cutoff.{above, Cut, unit, spared};
+ghost use Rattle.sharing.specs.RemainderLaws.{given, remainders_fair, remainders_titled};
 
 use crate::pot::Pot;
 use crate::rule::Sharing;
@@ -43,7 +43,7 @@ fn find_cutoff(rests: &[u32], left: usize, most: u32) -> u32
     let mut low = 0;
     let mut high = most;
     while low < high {
-        let middle = low + (high - low) / 2;
+        let middle = low.midpoint(high);
         if count_above(rests, middle) <= left {
             high = middle;
         } else {
@@ -81,7 +81,7 @@ impl OddUnits {
 // Writes each claimant's share.
 fn write_shares(pot: &Pot, mut odd: OddUnits, place: &mut [u32])
     requires { length place.old ≡ length pot.now.weights }
-    ensures { place.new ≡ added (floors pot.now.total (sum pot.now.weights) pot.now.weights) (dealt odd.cutoff odd.spare (rests pot.now.total (sum pot.now.weights) pot.now.weights)) }
+    ensures { place.new ≡ given pot.now.total (sum pot.now.weights) odd.cutoff odd.spare pot.now.weights }
 {
     // By index, as in `write_rests`.
     for (i, weight) in pot.weights.iter().enumerate() {
