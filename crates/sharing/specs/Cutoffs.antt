@@ -1,6 +1,6 @@
 -- Odd units by a cutoff: one to each remainder above it, and the rest to the earliest of those at it.
 use Rattle.std.specs.Prelude.{◌≡◌, ℕ, zero, suc, ◌+◌, ◌-◌, ◌<◌, ◌≤◌, if◌then◌else◌, List, [], ◌∷◌, ◌++◌, length, sum, nat_le, nat_lt, refl}
-use Rattle.std.proofs.Common.{sym, ap, subst, ◌∙◌, append_assoc, ⊎_elim, arith}
+use Rattle.std.proofs.Common.{sym, ap, subst, append_assoc, ⊎_elim, arith}
 use Rattle.std.proofs.lemmas.List.Sums.{sum_by-cons, sum_by-append}
 use Rattle.std.proofs.lemmas.Bool.{cases_lt}
 use Rattle.std.proofs.lemmas.Bool.Decides.{nat_tests}
@@ -35,22 +35,6 @@ above_is_at_least n xs = refl
 pub at_least_none : (xs : List ℕ) → at_least 0 xs ≡ length xs
 at_least_none [] = refl
 at_least_none (x ∷ xs) = let h = at_least_none xs in let b = at_least_cons 0 x xs in grind (arith, nat_tests)
-
--- how a claimant fares above the cutoff, at it, at it with nothing spare, and below it
-dealt_by : (cutoff spare rest u e : ℕ) (rests : List ℕ) → unit cutoff spare rest ≡ u → spared cutoff spare rest ≡ e → dealt cutoff spare (rest ∷ rests) ≡ u ∷ dealt cutoff e rests
-dealt_by k s r u e rs a b = ap (λ (v : ℕ). v ∷ dealt k (spared k s r) rs) a ∙ ap (λ v. u ∷ dealt k v rs) b
-
-pub dealt_above : (cutoff spare rest : ℕ) (rests : List ℕ) → cutoff < rest → dealt cutoff spare (rest ∷ rests) ≡ 1 ∷ dealt cutoff spare rests
-dealt_above k e r rs h = dealt_by k e r 1 e rs (grind (arith, nat_tests)) (grind (arith, nat_tests))
-
-pub dealt_at : (cutoff spare rest : ℕ) (rests : List ℕ) → rest ≡ cutoff → 0 < spare → dealt cutoff spare (rest ∷ rests) ≡ 1 ∷ dealt cutoff (spare - 1) rests
-dealt_at k e r rs h p = dealt_by k e r 1 (e - 1) rs (grind (arith, nat_tests)) (grind (arith, nat_tests))
-
-pub dealt_spent : (cutoff rest : ℕ) (rests : List ℕ) → rest ≤ cutoff → dealt cutoff 0 (rest ∷ rests) ≡ 0 ∷ dealt cutoff 0 rests
-dealt_spent k r rs h = dealt_by k 0 r 0 0 rs (grind (arith, nat_tests)) (grind (arith, nat_tests))
-
-pub dealt_below : (cutoff spare rest : ℕ) (rests : List ℕ) → rest < cutoff → dealt cutoff spare (rest ∷ rests) ≡ 0 ∷ dealt cutoff spare rests
-dealt_below k e r rs h = dealt_by k e r 0 e rs (grind (arith, nat_tests)) (grind (arith, nat_tests))
 
 -- what is left for those at the cutoff after the earlier claimants
 abbrev spare_after : ℕ → ℕ → List ℕ → List ℕ → ℕ

@@ -120,17 +120,6 @@ shared_dealt t w k ws cut =
 abbrev pub given : ℕ → ℕ → ℕ → ℕ → List ℕ → List ℕ
 given t w k e ws = added (floors t w ws) (dealt k e (rests t w ws))
 
-pub given_more : (t w k e x r s k' e' : ℕ) (ws : List ℕ) → r ≡ t * x % w → s ≡ t * x / w + unit k e r → k' ≡ k → e' ≡ spared k e r → given t w k e (x ∷ ws) ≡ s ∷ given t w k' e' ws
-given_more t w k e x r s k' e' ws at n c d =
-    ap (λ v. (t * x / w + unit k e v) ∷ given t w k (spared k e v) ws) (sym at)
-    ∙ ap (λ (v : ℕ). v ∷ given t w k (spared k e r) ws) (sym n)
-    ∙ ap (λ v. s ∷ given t w v (spared k e r) ws) (sym c)
-    ∙ ap (λ v. s ∷ given t w k' v ws) (sym d)
-
--- a claimant's part of a pot whose weights add up to w
-pub floor_le : (t w : ℕ) (ws : List ℕ) (i : ℕ) → w ≡ sum ws → i < length ws → t * slice_index ws i / w ≤ t
-floor_le t w ws i e h = omega (arith, floors_front t w ws i h, floors_front_le t w ws (i + 1) e)
-
 near_one : (t w x u : ℕ) → 0 < w → u ≤ 1 → (0 < u → 0 < t * x % w) → Near t w x (t * x / w + u)
 near_one t w x zero pos le some = omega (arith, div-add-mod' (t * x) w, mod-lt (t * x) pos)
 near_one t w x (suc u) pos le some = omega (arith, some (omega arith), add-mul (t * x / w) 1 w, ap (λ v. (t * x / w + suc v) * w) (let z : u ≡ 0 = omega arith in z), div-add-mod' (t * x) w, mod-lt (t * x) pos)
