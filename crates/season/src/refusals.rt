@@ -24,12 +24,9 @@ fn fault_of_call(account: &mut Account<Remainders>, call: Call) -> Option<Fault>
     match call {
         Call::Read { room, reading } => account.read(room, reading).err(),
         Call::Close { total, common } => account.close(total, common).err(),
-        Call::Correct { room, reading } => correct_late(
-            account,
-            room,
-            reading,
-            Ending::Withdraw,
-        ).err(),
+        Call::Correct { room, reading } => {
+            correct_late(account, room, reading, Ending::Withdraw).err()
+        }
         Call::Bill { room } => account.bill(room).err(),
         Call::Balance { room } => account.balance(room).err(),
         Call::Book { .. } | Call::Withdraw { .. } => match account.perform(call) {
