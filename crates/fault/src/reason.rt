@@ -48,11 +48,28 @@ impl Reason {
     pub fn layer(self) -> Layer
         ensures { result ≡ layer self }
     {
-        match self.number() {
-            0..=3 | 51.. => Layer::Paper,
-            4..=7 => Layer::House,
-            8..=32 => Layer::Account,
-            33..=50 => Layer::Sharing,
+        match self {
+            Reason::MalformedLine
+            | Reason::NoRoomLine
+            | Reason::NumberOutOfRange
+            | Reason::BufferTooShort
+            | Reason::InputTooLong => Layer::Paper,
+            Reason::TooManyRooms
+            | Reason::RoomNotAscending
+            | Reason::KindNotTaken
+            | Reason::AreasTooLarge => Layer::House,
+            Reason::UnknownRoom
+            | Reason::NotMetered
+            | Reason::ReadingTooLarge
+            | Reason::CorrectionOpen
+            | Reason::PeriodsFull
+            | Reason::FigureTooLarge
+            | Reason::CommonFigure
+            | Reason::ReadingsAboveTotal
+            | Reason::RestUnclaimed
+            | Reason::NothingClosed
+            | Reason::SlipMismatch => Layer::Account,
+            Reason::PlaceTooShort | Reason::SharingTooLarge | Reason::NoWeight => Layer::Sharing,
         }
     }
 }

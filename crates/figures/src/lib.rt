@@ -5,19 +5,12 @@ ghost use Rattle.std.specs.Prelude.{◌≡◌, length};
 ghost use Rattle.std.specs.List.{AllByRecursion};
 ghost use Rattle.figures.specs.Table.{Holds, table};
 
-// How many figures the table has.
-fn count() -> usize
-    ensures { result ≡ length table }
-{
-    12
-}
-
 // The number of worked figures, each of which follows from the written rules.
 pub fn worked_figures() -> usize
     ensures count { result ≡ length table }
     ensures hold { AllByRecursion Holds table }
 {
-    count()
+    12
 }
 
 #[cfg(test)]

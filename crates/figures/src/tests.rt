@@ -50,10 +50,8 @@ const CASES: [Case; 5] = [
 
 fn shared<R: Sharing>(rule: &R, total: u32, weights: &[u32]) -> Result<[u32; 4], Fail> {
     let mut place = [9; 4];
-    match rule.share(total, weights, &mut place) {
-        Ok(()) => Ok(place),
-        Err(_) => Err(Fail::new("refused")),
-    }
+    rule.share(total, weights, &mut place)?;
+    Ok(place)
 }
 
 #[test]
@@ -75,10 +73,8 @@ fn refusal<R: Sharing>(
     weights: &[u32],
     place: &mut [u32],
 ) -> Option<(u8, Layer, Place)> {
-    match rule.share(total, weights, place) {
-        Ok(()) => None,
-        Err(fault) => Some((fault.number(), fault.layer, fault.place)),
-    }
+    let fault = rule.share(total, weights, place).err()?;
+    Some((fault.number(), fault.layer, fault.place))
 }
 
 fn check_refused<R: Sharing>(
@@ -92,7 +88,7 @@ fn check_refused<R: Sharing>(
     let mut held = [7; 300];
     assert!(rt; room <= 300);
     assert_eq!(rt;
-        refusal(rule, total, weights, &mut held[0..room]),
+        refusal(rule, total, weights, &mut held[..room]),
         Some((number, Layer::Sharing, Place::Nowhere))
     );
     assert_eq!(rt; held, [7; 300], "a refusal leaves the place");
@@ -124,7 +120,7 @@ fn claimants_to_256(rt: HostRuntime) {
     let ones = [1; 257];
     check_both(&rt, 42, 1, &ones, 257);
     let mut place = [7; 257];
-    assert_eq!(rt; refusal(&Remainders, 255, &ones[0..256], &mut place), None);
+    assert_eq!(rt; refusal(&Remainders, 255, &ones[..256], &mut place), None);
     assert_eq!(rt; place[254], 1);
     assert_eq!(rt; place[255], 0);
     assert_eq!(rt; place[256], 7);

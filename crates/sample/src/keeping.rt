@@ -1,5 +1,5 @@
 // A season of house 7: two periods, a late reading in each, and a reading that is refused.
-use crate::late::{book_late, withdraw_late};
+use crate::late::{Ending, correct_late};
 use crate::{AREAS, FLATS};
 use fault::refusal::Fault;
 use heat_account::Account;
@@ -34,18 +34,27 @@ fn flat(number: u32, area: u32, kind: Kind) -> Room {
 fn house_seven() -> Result<House, Fault> {
     let mut house = House::new();
     let method = Method::Remainder { common_area: 3000 };
-    house.begin(7, method, flat(1, AREAS[0], Kind::Metered))?;
-    house.add(flat(2, AREAS[1], Kind::Metered))?;
-    house.add(flat(3, AREAS[2], Kind::Plain))?;
+    let [first, second, third] = AREAS;
+    house.begin(7, method, flat(1, first, Kind::Metered))?;
+    house.add(flat(2, second, Kind::Metered))?;
+    house.add(flat(3, third, Kind::Plain))?;
     Ok(house)
 }
 
+fn of_each_flat<T: Copy + Default, F: Fn(u32) -> Result<T, Fault>>(
+    figure: F,
+) -> Result<[T; FLATS], Fault>
+    requires { F.IsAlwaysCallable figure }
+{
+    let mut figures = [T::default(); FLATS];
+    for (flat, place) in (1..).zip(&mut figures) {
+        *place = figure(flat)?;
+    }
+    Ok(figures)
+}
+
 fn balances(account: &Account<Remainders>) -> Result<[u64; FLATS], Fault> {
-    Ok([
-        account.balance(1)?,
-        account.balance(2)?,
-        account.balance(3)?,
-    ])
+    of_each_flat(|flat| account.balance(flat))
 }
 
 fn close_period(
@@ -55,32 +64,29 @@ fn close_period(
 ) -> Result<(), Stop> {
     let period = account.close(total, None)?;
     println!(rt; "house 7, period {period}, total {total}")?;
-    let mut sum = 0u64;
-    for flat in 1..4 {
-        let (own, common) = account.bill(flat)?;
+    let bills = of_each_flat(|flat| account.bill(flat))?;
+    for (flat, (own, common)) in (1..).zip(&bills) {
         println!(rt; "flat {flat}: own heat {own}, common share {common}")?;
-        sum = sum.saturating_add(u64::from(own) + u64::from(common));
     }
+    let sum = bills
+        .iter()
+        .map(|(own, common)| u64::from(*own) + u64::from(*common))
+        .fold(0, u64::saturating_add);
     println!(rt; "sum {sum}")?;
     Ok(())
 }
 
-fn print_change(rt: &HostRuntime, flat: usize, before: u64, after: u64) -> io::Result<()> {
-    if after < before {
-        let less = before - after;
-        println!(rt; "flat {flat}: change -{less}, balance {after}")
-    } else {
-        let more = after - before;
-        println!(rt; "flat {flat}: change {more}, balance {after}")
-    }
+fn print_change(rt: &HostRuntime, flat: u32, before: u64, after: u64) -> io::Result<()> {
+    let sign = if after < before { "-" } else { "" };
+    let change = after.abs_diff(before);
+    println!(rt; "flat {flat}: change {sign}{change}, balance {after}")
 }
 
 fn print_balances(rt: &HostRuntime, before: &[u64; FLATS], after: &[u64; FLATS]) -> io::Result<()> {
-    let mut sum = 0u64;
-    for (i, (old, new)) in before.iter().zip(after.iter()).enumerate() {
-        print_change(rt, i + 1, *old, *new)?;
-        sum = sum.saturating_add(*new);
+    for (flat, (old, new)) in (1..).zip(before.iter().zip(after)) {
+        print_change(rt, flat, *old, *new)?;
     }
+    let sum = after.iter().copied().fold(0, u64::saturating_add);
     println!(rt; "sum {sum}")
 }
 
@@ -88,7 +94,7 @@ fn keep_first(rt: &HostRuntime, account: &mut Account<Remainders>) -> Result<(),
     account.read(1, 300)?;
     close_period(rt, account, 1000)?;
     let before = balances(account)?;
-    book_late(account, 2, 200)?;
+    correct_late(account, 2, 200, Ending::Book)?;
     println!(rt; "flat 2 reads 200, late: booked")?;
     print_balances(rt, &before, &balances(account)?)?;
     Ok(())
@@ -99,7 +105,7 @@ fn keep_second(rt: &HostRuntime, account: &mut Account<Remainders>) -> Result<()
     account.read(2, 180)?;
     close_period(rt, account, 900)?;
     let before = balances(account)?;
-    withdraw_late(account, 2, 280)?;
+    correct_late(account, 2, 280, Ending::Withdraw)?;
     println!(rt; "flat 2 reads 280, late: withdrawn")?;
     print_balances(rt, &before, &balances(account)?)?;
     Ok(())

@@ -3,26 +3,25 @@ use fault::refusal::Fault;
 use heat_account::Account;
 use sharing::remainders::Remainders;
 
-pub(crate) fn book_late(
-    account: &mut Account<Remainders>,
-    room: u32,
-    reading: u32,
-) -> Result<(), Fault> {
-    let slip = account.correct(room, reading)?;
-    match account.book(slip) {
-        Ok(()) => Ok(()),
-        // Its own account takes a slip.
-        Err(_) => unreachable(),
-    }
+// How a correction ends.
+#[derive(Clone, Copy)]
+pub(crate) enum Ending {
+    Book,
+    Withdraw,
 }
 
-pub(crate) fn withdraw_late(
+pub(crate) fn correct_late(
     account: &mut Account<Remainders>,
     room: u32,
     reading: u32,
+    ending: Ending,
 ) -> Result<(), Fault> {
     let slip = account.correct(room, reading)?;
-    match account.withdraw(slip) {
+    let ended = match ending {
+        Ending::Book => account.book(slip),
+        Ending::Withdraw => account.withdraw(slip),
+    };
+    match ended {
         Ok(()) => Ok(()),
         // Its own account takes a slip.
         Err(_) => unreachable(),

@@ -41,8 +41,7 @@ fn print_sharing<R: Sharing>(
     let mut shares = [0; FLATS];
     match share_out(rule, pot, areas, &mut shares) {
         Ok(sum) => {
-            for (i, (area, share)) in areas.iter().zip(shares.iter()).enumerate() {
-                let flat = i + 1;
+            for (flat, (area, share)) in (1..).zip(areas.iter().zip(&shares)) {
                 println!(rt; "flat {flat}: area {area}, share {share}")?;
             }
             println!(rt; "sum {sum}")

@@ -1,4 +1,5 @@
-use crate::houses::seven_closed;
+use crate::calls::{book, correct, withdraw};
+use crate::houses::{of_each_room, seven_closed};
 use fault::place::Place;
 use fault::reason::Reason;
 use fault::refusal::Fault;
@@ -13,19 +14,13 @@ use std::test::Fail;
 fn changes_while_correcting(rt: HostRuntime) -> Result<(), Fail> {
     let mut account = seven_closed()?;
     account.read(1, 9)?;
-    account.perform(Call::Correct {
-        room: 2,
-        reading: 200,
-    });
+    account.perform(correct(2, 200));
     let changes = account.changes()?;
     assert_eq!(rt; account.change(2), Ok(-15));
     let unknown = Fault::new(Reason::UnknownRoom, Place::Room(9));
     assert_eq!(rt; account.change(9), Err(unknown));
     // What was told outlives the correction.
-    account.perform(Call::Book {
-        house: 7,
-        period: 1,
-    });
+    account.perform(book(7, 1));
     assert!(rt; changes.as_slice() == [1, -15, 14].as_slice());
     Ok(())
 }
@@ -42,10 +37,6 @@ fn nothing_is_being_corrected(rt: HostRuntime) -> Result<(), Fail> {
     Ok(())
 }
 
-fn first_changes(account: &Account<Remainders>) -> Result<[i64; 3], Fault> {
-    Ok([account.change(1)?, account.change(2)?, account.change(3)?])
-}
-
 // What the first three rooms' bills change by, told while a correction is open that is then ended.
 fn changes_of(
     rt: &impl Abort,
@@ -54,9 +45,9 @@ fn changes_of(
     reading: u32,
     end: Call,
 ) -> Result<[i64; 3], Fault> {
-    let begun = account.perform(Call::Correct { room, reading });
+    let begun = account.perform(correct(room, reading));
     assert!(rt; matches!(begun, Answer::Corrected { house: 7, .. }));
-    let changes = first_changes(account)?;
+    let changes = of_each_room(|room| account.change(room))?;
     assert_eq!(rt; account.perform(end), Answer::Done);
     Ok(changes)
 }
@@ -64,34 +55,24 @@ fn changes_of(
 #[test]
 fn changes_of_corrections_in_turn(rt: HostRuntime) -> Result<(), Fail> {
     let mut account = seven_closed()?;
-    let first = Call::Book {
-        house: 7,
-        period: 1,
-    };
-    assert_eq!(rt; changes_of(&rt, &mut account, 2, 200, first)?, [1, -15, 14]);
-    let dropped = Call::Withdraw {
-        house: 7,
-        period: 1,
-    };
     assert_eq!(rt;
-        changes_of(&rt, &mut account, 1, 5, dropped)?,
+        changes_of(&rt, &mut account, 2, 200, book(7, 1))?,
+        [1, -15, 14]
+    );
+    assert_eq!(rt;
+        changes_of(&rt, &mut account, 1, 5, withdraw(7, 1))?,
         [-262, 27, 235]
     );
     // The reading that is there.
-    let again = Call::Book {
-        house: 7,
-        period: 1,
-    };
-    assert_eq!(rt; changes_of(&rt, &mut account, 2, 200, again)?, [0, 0, 0]);
+    assert_eq!(rt;
+        changes_of(&rt, &mut account, 2, 200, book(7, 1))?,
+        [0, 0, 0]
+    );
     account.read(1, 250)?;
     account.read(2, 180)?;
     account.close(900, None)?;
-    let later = Call::Withdraw {
-        house: 7,
-        period: 2,
-    };
     assert_eq!(rt;
-        changes_of(&rt, &mut account, 2, 0, later)?,
+        changes_of(&rt, &mut account, 2, 0, withdraw(7, 2))?,
         [20, -164, 144]
     );
     Ok(())

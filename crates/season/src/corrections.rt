@@ -19,28 +19,26 @@ fn look(account: &Account<Remainders>, slip: &Slip) -> Result<Seen, Fault> {
     })
 }
 
-pub(crate) fn book(
-    account: &mut Account<Remainders>,
-    room: u32,
-    reading: u32,
-) -> Result<Seen, Fault> {
-    let slip = account.correct(room, reading)?;
-    let seen = look(account, &slip);
-    match account.book(slip) {
-        Ok(()) => seen,
-        // Its own account takes a slip.
-        Err(_) => unreachable(),
-    }
+// How a correction ends.
+#[derive(Clone, Copy)]
+pub(crate) enum Ending {
+    Book,
+    Withdraw,
 }
 
-pub(crate) fn withdraw(
+pub(crate) fn correct_late(
     account: &mut Account<Remainders>,
     room: u32,
     reading: u32,
+    ending: Ending,
 ) -> Result<Seen, Fault> {
     let slip = account.correct(room, reading)?;
     let seen = look(account, &slip);
-    match account.withdraw(slip) {
+    let ended = match ending {
+        Ending::Book => account.book(slip),
+        Ending::Withdraw => account.withdraw(slip),
+    };
+    match ended {
         Ok(()) => seen,
         // Its own account takes a slip.
         Err(_) => unreachable(),

@@ -38,9 +38,7 @@ fn check_edge(rt: &impl Abort, edge: &Edge) -> Result<(), Fail> {
     }
     assert_eq!(rt; account.close(total, edge.common), Ok(1), "total {total}");
     let mut sum = 0u64;
-    let mut room = 0u32;
-    for (own, common) in edge.bills {
-        room = room.saturating_add(1);
+    for (room, (own, common)) in (1..).zip(edge.bills) {
         assert_eq!(rt; account.bill(room), Ok((*own, *common)), "total {total}");
         sum = sum.saturating_add(account.balance(room)?);
     }

@@ -15,23 +15,20 @@ pub(crate) const SEVEN_ROOMS: [(Kind, u32); 3] = [
     (Kind::Plain, 6000),
 ];
 
-pub(crate) fn build(number: u32, method: Method, rooms: &[(Kind, u32)]) -> Result<House, Fault> {
-    let mut house = House::new();
-    let mut next = 1u32;
-    for (kind, area) in rooms {
-        let room = Room {
-            number: next,
-            area: *area,
-            kind: *kind,
-        };
-        if next == 1 {
-            house.begin(number, method, room)?;
-        } else {
-            house.add(room)?;
-        }
-        next = next.saturating_add(1);
+pub(crate) fn build(house: u32, method: Method, rooms: &[(Kind, u32)]) -> Result<House, Fault> {
+    let mut built = House::new();
+    let mut numbered = (1..).zip(rooms).map(|(number, (kind, area))| Room {
+        number,
+        area: *area,
+        kind: *kind,
+    });
+    if let Some(first) = numbered.next() {
+        built.begin(house, method, first)?;
     }
-    Ok(house)
+    for room in numbered {
+        built.add(room)?;
+    }
+    Ok(built)
 }
 
 pub(crate) fn open(
@@ -57,13 +54,22 @@ pub(crate) struct Figures {
     pub(crate) balances: [u64; 3],
 }
 
+// What is told of each of the first three rooms.
+pub(crate) fn of_each_room<T: Copy + Default, F: Fn(u32) -> Result<T, Fault>>(
+    figure: F,
+) -> Result<[T; 3], Fault>
+    requires { F.IsAlwaysCallable figure }
+{
+    let mut figures = [T::default(); 3];
+    for (room, place) in (1..).zip(&mut figures) {
+        *place = figure(room)?;
+    }
+    Ok(figures)
+}
+
 pub(crate) fn figures_of(account: &Account<Remainders>) -> Result<Figures, Fault> {
     Ok(Figures {
-        bills: [account.bill(1)?, account.bill(2)?, account.bill(3)?],
-        balances: [
-            account.balance(1)?,
-            account.balance(2)?,
-            account.balance(3)?,
-        ],
+        bills: of_each_room(|room| account.bill(room))?,
+        balances: of_each_room(|room| account.balance(room))?,
     })
 }

@@ -2,6 +2,8 @@
 
 // The heat account through whole seasons, by its public calls.
 #[cfg(test)]
+mod calls;
+#[cfg(test)]
 mod changes;
 #[cfg(test)]
 mod corrections;

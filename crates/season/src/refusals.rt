@@ -1,4 +1,5 @@
-use crate::corrections::withdraw;
+use crate::calls::{book, close, correct, read, withdraw};
+use crate::corrections::{Ending, correct_late};
 use crate::houses::{SEVEN, SEVEN_ROOMS, open, seven_closed};
 use fault::layer::Layer;
 use fault::place::Place;
@@ -23,7 +24,9 @@ fn fault_of_call(account: &mut Account<Remainders>, call: Call) -> Option<Fault>
     match call {
         Call::Read { room, reading } => account.read(room, reading).err(),
         Call::Close { total, common } => account.close(total, common).err(),
-        Call::Correct { room, reading } => withdraw(account, room, reading).err(),
+        Call::Correct { room, reading } => {
+            correct_late(account, room, reading, Ending::Withdraw).err()
+        }
         Call::Bill { room } => account.bill(room).err(),
         Call::Balance { room } => account.balance(room).err(),
         Call::Book { .. } | Call::Withdraw { .. } => match account.perform(call) {
@@ -36,31 +39,17 @@ fn fault_of_call(account: &mut Account<Remainders>, call: Call) -> Option<Fault>
 // Each call with the number and the place of its refusal, which leaves the account as it was.
 fn check_refused(rt: &impl Abort, account: &mut Account<Remainders>, cases: &[(Call, u8, Place)]) {
     for (call, number, place) in cases {
-        let told = match fault_of_call(account, *call) {
-            Some(fault) => {
-                assert_eq!(rt; account.perform(*call), Answer::Refused(fault));
-                Some((fault.number(), fault.layer, fault.place))
-            }
-            None => None,
-        };
+        let fault = fault_of_call(account, *call);
+        if let Some(fault) = fault {
+            assert_eq!(rt; account.perform(*call), Answer::Refused(fault));
+        }
+        let told = fault.map(|fault| (fault.number(), fault.layer, fault.place));
         assert_eq!(rt;
             told,
             Some((*number, Layer::Account, *place)),
             "case {number}"
         );
     }
-}
-
-fn read(room: u32, reading: u32) -> Call {
-    Call::Read { room, reading }
-}
-
-fn close(total: u32, common: Option<u32>) -> Call {
-    Call::Close { total, common }
-}
-
-fn correct(room: u32, reading: u32) -> Call {
-    Call::Correct { room, reading }
 }
 
 #[test]
@@ -82,8 +71,8 @@ fn nothing_is_closed(rt: HostRuntime) -> Result<(), Fail> {
             (close(299, None), 25, Place::Nowhere),
             (correct(9, ABOVE), 31, Place::Room(9)),
             (correct(1, 0), 31, Place::Room(1)),
-            (Call::Book { house, period }, 32, Place::Nowhere),
-            (Call::Withdraw { house, period }, 32, Place::Nowhere),
+            (book(house, period), 32, Place::Nowhere),
+            (withdraw(house, period), 32, Place::Nowhere),
             (Call::Bill { room: 9 }, 31, Place::Room(9)),
             (Call::Bill { room: 1 }, 31, Place::Room(1)),
             (Call::Balance { room: 9 }, 11, Place::Room(9)),
@@ -105,8 +94,8 @@ fn a_period_is_closed(rt: HostRuntime) -> Result<(), Fail> {
             (correct(2, ABOVE), 13, Place::Room(2)),
             (correct(2, MOST), 25, Place::Room(2)),
             (correct(2, 701), 25, Place::Room(2)),
-            (Call::Book { house, period }, 32, Place::Nowhere),
-            (Call::Withdraw { house, period }, 32, Place::Nowhere),
+            (book(house, period), 32, Place::Nowhere),
+            (withdraw(house, period), 32, Place::Nowhere),
             (Call::Bill { room: 0 }, 11, Place::Room(0)),
         ],
     );
@@ -119,15 +108,15 @@ fn a_period_is_closed(rt: HostRuntime) -> Result<(), Fail> {
             (read(0, 0), 11, Place::Room(0)),
             (close(ABOVE, Some(0)), 21, Place::Nowhere),
             (correct(0, ABOVE), 21, Place::Room(0)),
-            (Call::Book { house, period: 0 }, 32, Place::Nowhere),
-            (Call::Book { house: 8, period }, 32, Place::Nowhere),
-            (Call::Withdraw { house, period: 2 }, 32, Place::Nowhere),
-            (Call::Withdraw { house: 8, period }, 32, Place::Nowhere),
+            (book(house, 0), 32, Place::Nowhere),
+            (book(8, period), 32, Place::Nowhere),
+            (withdraw(house, 2), 32, Place::Nowhere),
+            (withdraw(8, period), 32, Place::Nowhere),
         ],
     );
     assert_eq!(rt; account.read(1, 1), Ok(()));
     assert_eq!(rt; account.bill(2), Ok((216, 43)));
-    assert_eq!(rt; account.perform(Call::Book { house, period }), Answer::Done);
+    assert_eq!(rt; account.perform(book(house, period)), Answer::Done);
     assert_eq!(rt; account.bill(2), Ok((700, 0)));
     Ok(())
 }

@@ -1,4 +1,5 @@
-use crate::corrections::{Seen, book, book_elsewhere, withdraw};
+use crate::calls::{book, close, correct, read, withdraw};
+use crate::corrections::{Ending, Seen, book_elsewhere, correct_late};
 use crate::houses::{Figures, SEVEN, SEVEN_ROOMS, build, figures_of, open, seven_closed};
 use fault::place::Place;
 use fault::reason::Reason;
@@ -35,12 +36,27 @@ fn a_season_of_house_7(rt: HostRuntime) -> Result<(), Fail> {
     assert_eq!(rt; account.read(1, 300), Ok(()));
     assert_eq!(rt; account.close(1000, None), Ok(1));
     assert_eq!(rt; figures_of(&account)?, CLOSED);
-    check_seen(&rt, book(&mut account, 2, 200)?, 1, CLOSED);
+    check_seen(
+        &rt,
+        correct_late(&mut account, 2, 200, Ending::Book)?,
+        1,
+        CLOSED,
+    );
     assert_eq!(rt; figures_of(&account)?, BOOKED);
-    check_seen(&rt, withdraw(&mut account, 1, 5)?, 1, BOOKED);
+    check_seen(
+        &rt,
+        correct_late(&mut account, 1, 5, Ending::Withdraw)?,
+        1,
+        BOOKED,
+    );
     assert_eq!(rt; figures_of(&account)?, BOOKED);
     // The reading that is there.
-    check_seen(&rt, book(&mut account, 2, 200)?, 1, BOOKED);
+    check_seen(
+        &rt,
+        correct_late(&mut account, 2, 200, Ending::Book)?,
+        1,
+        BOOKED,
+    );
     assert_eq!(rt; figures_of(&account)?, BOOKED);
     Ok(())
 }
@@ -50,7 +66,12 @@ fn a_second_period_begins_with_no_readings(rt: HostRuntime) -> Result<(), Fail> 
     let mut account = seven_closed()?;
     // Readings of the open period outlive a booking.
     account.read(1, 250)?;
-    check_seen(&rt, book(&mut account, 2, 200)?, 1, CLOSED);
+    check_seen(
+        &rt,
+        correct_late(&mut account, 2, 200, Ending::Book)?,
+        1,
+        CLOSED,
+    );
     account.read(2, 999)?;
     account.read(2, 180)?;
     assert_eq!(rt; account.close(900, None), Ok(2));
@@ -59,7 +80,12 @@ fn a_second_period_begins_with_no_readings(rt: HostRuntime) -> Result<(), Fail> 
         balances: [657, 466, 777],
     };
     assert_eq!(rt; figures_of(&account)?, second);
-    check_seen(&rt, withdraw(&mut account, 2, 0)?, 2, second);
+    check_seen(
+        &rt,
+        correct_late(&mut account, 2, 0, Ending::Withdraw)?,
+        2,
+        second,
+    );
     assert_eq!(rt; account.close(0, None), Ok(3));
     assert_eq!(rt; account.bill(1), Ok((0, 0)));
     assert_eq!(rt; account.balance(1), Ok(657));
@@ -76,30 +102,15 @@ fn a_slip_fits_by_its_numbers(rt: HostRuntime) -> Result<(), Fail> {
     other.close(500, None)?;
     let mismatch = Some(Fault::new(Reason::SlipMismatch, Place::Nowhere));
     assert_eq!(rt; book_elsewhere(&mut account, &mut twin, 2, 200)?, mismatch);
-    twin.perform(Call::Correct {
-        room: 2,
-        reading: 100,
-    });
-    later.perform(Call::Correct {
-        room: 2,
-        reading: 100,
-    });
-    other.perform(Call::Correct {
-        room: 2,
-        reading: 100,
-    });
+    twin.perform(correct(2, 100));
+    later.perform(correct(2, 100));
+    other.perform(correct(2, 100));
     assert_eq!(rt; book_elsewhere(&mut account, &mut later, 2, 200)?, mismatch);
     assert_eq!(rt; book_elsewhere(&mut account, &mut other, 2, 200)?, mismatch);
     assert_eq!(rt; book_elsewhere(&mut account, &mut twin, 2, 200)?, None);
     assert_eq!(rt; twin.bill(2), Ok((100, 53)));
     // Its own slip is gone, and the numbers end the correction.
-    assert_eq!(rt;
-        account.perform(Call::Withdraw {
-            house: 7,
-            period: 1,
-        }),
-        Answer::Done
-    );
+    assert_eq!(rt; account.perform(withdraw(7, 1)), Answer::Done);
     assert_eq!(rt; figures_of(&account)?, CLOSED);
     Ok(())
 }
@@ -115,66 +126,38 @@ fn the_600th_closing_is_the_last(rt: HostRuntime) -> Result<(), Fail> {
     for period in 1..601 {
         assert_eq!(rt; account.close(100_000_000, None), Ok(period));
     }
-    let more = Call::Close {
-        total: 100_000_001,
-        common: None,
-    };
+    let more = close(100_000_001, None);
     assert_eq!(rt; account.perform(more), refused(Reason::PeriodsFull));
     assert_eq!(rt; account.balance(1), Ok(30_000_000_000));
     // Readings and corrections go on.
     assert_eq!(rt; account.read(1, 5), Ok(()));
     let (house, period) = (1, 600);
     assert_eq!(rt;
-        account.perform(Call::Correct {
-            room: 1,
-            reading: 0,
-        }),
+        account.perform(correct(1, 0)),
         Answer::Corrected { house, period }
     );
     assert_eq!(rt; account.perform(more), refused(Reason::CorrectionOpen));
-    assert_eq!(rt; account.perform(Call::Book { house, period }), Answer::Done);
+    assert_eq!(rt; account.perform(book(house, period)), Answer::Done);
     assert_eq!(rt; account.balance(1), Ok(29_950_000_000));
     Ok(())
 }
 
-const CALLS: [Call; 9] = [
-    Call::Read {
-        room: 1,
-        reading: 300,
-    },
-    Call::Close {
-        total: 1000,
-        common: None,
-    },
-    Call::Correct {
-        room: 2,
-        reading: 200,
-    },
-    Call::Close {
-        total: 1,
-        common: None,
-    },
-    Call::Book {
-        house: 7,
-        period: 2,
-    },
-    Call::Book {
-        house: 7,
-        period: 1,
-    },
-    Call::Bill { room: 2 },
-    Call::Balance { room: 3 },
-    Call::Withdraw {
-        house: 7,
-        period: 1,
-    },
-];
-
 #[test]
 fn a_run_answers_each_call(rt: HostRuntime) -> Result<(), Fail> {
+    let calls = [
+        read(1, 300),
+        close(1000, None),
+        correct(2, 200),
+        close(1, None),
+        book(7, 2),
+        book(7, 1),
+        Call::Bill { room: 2 },
+        Call::Balance { room: 3 },
+        withdraw(7, 1),
+    ];
     let mut answers = [Answer::Balanced(9); 10];
     let house = build(7, SEVEN, &SEVEN_ROOMS)?;
-    let account = run(house, Remainders, &CALLS, &mut answers);
+    let account = run(house, Remainders, &calls, &mut answers);
     assert_eq!(rt; figures_of(&account)?, BOOKED);
     assert_eq!(rt;
         answers,

@@ -15,10 +15,8 @@ fn check_refused(
     refusal: (u8, Layer, Place),
 ) {
     let mut place = [7; 3];
-    let told = match account.split(room, stakes, &mut place) {
-        Ok(()) => None,
-        Err(fault) => Some((fault.number(), fault.layer, fault.place)),
-    };
+    let fault = account.split(room, stakes, &mut place).err();
+    let told = fault.map(|fault| (fault.number(), fault.layer, fault.place));
     assert_eq!(rt; told, Some(refusal));
     assert_eq!(rt; place, [7; 3]);
 }

@@ -1,26 +1,17 @@
 -- What the answer to a sharing tells.
-use Rattle.std.proofs.Common.{◌≡◌, ℕ, ◌<◌, ◌≤◌, List, length, take, drop, Some, None, Ok, Err, sum, Option, refl, ap, ◌∙◌, arith}
+use Rattle.std.proofs.Common.{◌≡◌, ℕ, ◌<◌, ◌≤◌, List, ◌++◌, length, take, drop, Some, None, Ok, sum, Option, refl, ap, ◌∙◌, arith}
 use Rattle.std.proofs.lemmas.List.{take_at}
 use Rattle.std.proofs.lemmas.Bool.Decides.{nat_tests}
 use Rattle.fault.specs.declared.reason.Reason.{Reason}
-use Rattle.fault.specs.declared.refusal.Fault.{Fault}
+use Rattle.sharing.specs.Accepted.{WithinLimits}
 use Rattle.sharing.specs.Refusal.{refusal, answer, placed}
 
-pub record Accepted (total : ℕ) (weights : List ℕ) (room : ℕ) : Type 0 where
-  pub none : refusal total weights room ≡ None
-  pub fits : length weights ≤ room
-  pub few : length weights ≤ 256
-  pub total_small : total ≤ 100000000
-  pub sum_small : sum weights ≤ 100000000
-  pub weighed : 0 < total → 0 < sum weights
-
-pub none_is_accepted : (total : ℕ) (weights : List ℕ) (room : ℕ) → refusal total weights room ≡ None → Accepted total weights room
-none_is_accepted total weights room e = record {
-  none = e;
-  fits = grind (arith, nat_tests);
+pub within_limits : (total : ℕ) (weights : List ℕ) (room : ℕ) → refusal total weights room ≡ None → WithinLimits total weights (sum weights)
+within_limits total weights room e = record {
   few = grind (arith, nat_tests);
-  total_small = grind (arith, nat_tests);
-  sum_small = grind (arith, nat_tests);
+  small = grind (arith, nat_tests);
+  light = grind (arith, nat_tests);
+  summed = refl;
   weighed = λ h. grind (arith, nat_tests);
 }
 
@@ -32,10 +23,10 @@ pub ok_is_none : {X : Type 0} (o : Option Reason) (x y : X) → answer o x ≡ O
 ok_is_none None x y e = (refl, cc)
 ok_is_none (Some r) x y e = let z : ◌≡◌ {A = ℕ} 0 1 = cc in absurd (omega arith)
 
--- a refusal is answered alike whatever the value would be, and leaves the place
-pub err_is_refusal : {X Y : Type 0} (o : Option Reason) (x : X) (y : Y) (f : Fault) → answer o x ≡ Err f → (answer o y ≡ Err f) × ((new old : List ℕ) → placed o new old ≡ old)
-err_is_refusal None x y f e = let z : ◌≡◌ {A = ℕ} 0 1 = cc in absurd (omega arith)
-err_is_refusal (Some r) x y f e = (cc, λ new old. refl)
+-- what an accepted sharing leaves in the place
+pub placed_of_ok : {X : Type 0} (o : Option Reason) (x y : X) (place shares old : List ℕ) → answer o x ≡ Ok y → place ≡ shares ++ drop (length shares) old → place ≡ placed o shares old
+placed_of_ok None x y place shares old e h = h
+placed_of_ok (Some r) x y place shares old e h = let z : ◌≡◌ {A = ℕ} 0 1 = cc in absurd (omega arith)
 
 -- the front of the place holds the shares
 pub placed_front : (o : Option Reason) (shares old : List ℕ) (n : ℕ) → o ≡ None → length shares ≡ n → take n (placed o shares old) ≡ shares

@@ -1,13 +1,14 @@
 -- What follows from the laws of a sharing for every rule.
-use Rattle.std.proofs.Common.{◌≡◌, ℕ, zero, suc, ◌*◌, ◌<◌, ◌≤◌, List, [], ◌∷◌, length, take, replicate, IfOk, Ok, Err, sum, Result, sym, refl, ap, ◌∙◌, ⊎_elim, mul-le-mul_right, one-mul, mul-zero, arith}
+use Rattle.std.proofs.Common.{◌≡◌, ℕ, zero, suc, ◌*◌, ◌<◌, ◌≤◌, List, [], ◌∷◌, length, take, IfOk, Ok, Err, sum, Result, sym, refl, ap, ◌∙◌, ⊎_elim, mul-le-mul_right, one-mul, mul-zero, arith}
 use Rattle.std.specs.List.{AllZip}
 use Rattle.std.proofs.ByRecursion.{All-from_get_or}
 use Rattle.std.proofs.lemmas.Bool.{cases_lt}
+use Rattle.std.proofs.lemmas.List.Folds.{sum_by-replicate}
 use Rattle.fault.specs.declared.refusal.Fault.{Fault}
 use Rattle.sharing.specs.Rule.{Shares, Near, Fair, Modest}
 use Rattle.sharing.specs.Refusal.{refusal, answer, placed}
-use Rattle.sharing.proofs.Answered.{ok_is_none, none_is_accepted, placed_front}
-use Rattle.sharing.specs.Totals.{sum_cons, entry_le_sum}
+use Rattle.sharing.proofs.Answered.{ok_is_none, within_limits, placed_front}
+use Rattle.sharing.specs.Totals.{entry_le_sum}
 
 -- a share of weight 0 is below one unit
 none_near : (t w x s : ℕ) → Near t w x s → x ≡ 0 → s ≡ 0
@@ -26,16 +27,12 @@ modest shares fair = record {
   weightless = λ t ws pos. all_none_near t (sum ws) ws (shares t ws) (fair.near t ws pos);
 }
 
-sum_zeros : (n : ℕ) → sum (replicate n 0) ≡ 0
-sum_zeros zero = refl
-sum_zeros (suc n) = omega (arith, sum_cons 0 (replicate n 0), sum_zeros n)
-
 -- the shares of an accepted sharing add up to the total, also where nobody has a weight
 pub shares_sum : (shares : Shares) → Fair shares → (t : ℕ) (ws : List ℕ) → (0 < t → 0 < sum ws) → sum (shares t ws) ≡ t
 shares_sum shares fair t ws weighed =
     ⊎_elim
     (λ pos. fair.whole t ws pos)
-    (λ none. let z : t ≡ 0 = no_total t weighed none in ap (λ v. sum (shares v ws)) z ∙ ap sum (fair.none ws (omega arith)) ∙ sum_zeros (length ws) ∙ sym z)
+    (λ none. let z : t ≡ 0 = no_total t weighed none in ap (λ v. sum (shares v ws)) z ∙ ap sum (fair.none ws (omega arith)) ∙ omega (arith, sum_by-replicate (λ x. x) (length ws) 0))
     (cases_lt 0 (sum ws))
   where
     no_total : (n : ℕ) → (0 < n → 0 < sum ws) → sum ws ≤ 0 → n ≡ 0
@@ -48,4 +45,4 @@ paid_whole shares fair t ws old (Err f) now e after = tt
 paid_whole shares fair t ws old (Ok u) now e after =
     let o = refusal t ws (length old) in
     let none = (ok_is_none o tt u (sym e)).0 in
-    ap (λ v. sum (take (length ws) v)) after ∙ ap sum (placed_front o (shares t ws) old (length ws) none (fair.long t ws)) ∙ shares_sum shares fair t ws (none_is_accepted t ws (length old) none).weighed
+    ap (λ v. sum (take (length ws) v)) after ∙ ap sum (placed_front o (shares t ws) old (length ws) none (fair.long t ws)) ∙ shares_sum shares fair t ws (within_limits t ws (length old) none).weighed

@@ -1,8 +1,8 @@
 -- The largest remainders by a cutoff: those above it, and the earliest of those at it.
-use Rattle.std.specs.Prelude.{ℕ, ◌-◌, ◌≤◌, cond, ◌&&◌, ◌||◌, ltb, List, [], ◌∷◌, count_by, ◌==◌, nat_le, nat_lt}
+use Rattle.std.specs.Prelude.{ℕ, ◌-◌, ◌≤◌, if◌then◌else◌, ◌&&◌, ◌||◌, List, [], ◌∷◌, count_by, ◌==◌, nat_le, nat_lt}
 
 abbrev pub above : ℕ → List ℕ → ℕ
-above n xs = count_by (λ x. ltb n x) xs
+above n xs = count_by (λ x. nat_lt n x) xs
 
 abbrev pub at_least : ℕ → List ℕ → ℕ
 at_least n xs = count_by (λ x. nat_le n x) xs
@@ -14,11 +14,11 @@ pub record Cut (left cutoff : ℕ) (rests : List ℕ) : Type 0 where
 
 -- the odd unit of a claimant: one above the cutoff, and one at it while units are spare
 abbrev pub unit : ℕ → ℕ → ℕ → ℕ
-unit cutoff spare rest = cond (nat_lt cutoff rest || (nat_lt 0 spare && rest == cutoff)) 1 0
+unit cutoff spare rest = if nat_lt cutoff rest || (nat_lt 0 spare && rest == cutoff) then 1 else 0
 
 -- what is then left to spare
 abbrev pub spared : ℕ → ℕ → ℕ → ℕ
-spared cutoff spare rest = cond (rest == cutoff) (spare - 1) spare
+spared cutoff spare rest = if rest == cutoff then spare - 1 else spare
 
 abbrev pub dealt : ℕ → ℕ → List ℕ → List ℕ
 dealt cutoff spare [] = []

@@ -1,5 +1,6 @@
 pub mod Rule
 pub mod Refusal
+pub mod Accepted
 pub mod Running
 pub mod Remainders
 pub mod Cutoff

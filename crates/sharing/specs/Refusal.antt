@@ -1,5 +1,5 @@
 -- When a sharing is refused, and what the caller's place then holds.
-use Rattle.std.specs.Prelude.{ℕ, Bool, cond, ◌&&◌, ◌||◌, List, ◌++◌, length, drop, Some, None, Ok, Err, sum, Option, Result, ◌==◌, nat_lt}
+use Rattle.std.specs.Prelude.{ℕ, Bool, if◌then◌else◌, ◌&&◌, ◌||◌, List, ◌++◌, length, drop, Some, None, Ok, Err, sum, Option, Result, ◌==◌, nat_lt}
 use Rattle.fault.specs.Numbers.{fault_of}
 use Rattle.fault.specs.declared.place.Place.TheVariants.{Nowhere}
 use Rattle.fault.specs.declared.reason.Reason.{Reason}
@@ -13,10 +13,10 @@ too_large total weights = nat_lt 256 (length weights) || (nat_lt 100000000 total
 -- the first reason that applies, if any: `room` is the length of the caller's place
 abbrev pub refusal : ℕ → List ℕ → ℕ → Option Reason
 refusal total weights room =
-    cond (nat_lt room (length weights)) (Some PlaceTooShort)
-    (cond (too_large total weights) (Some SharingTooLarge)
-    (cond (nat_lt 0 total && sum weights == 0) (Some NoWeight)
-    None))
+    if nat_lt room (length weights) then Some PlaceTooShort
+    else if too_large total weights then Some SharingTooLarge
+    else if nat_lt 0 total && sum weights == 0 then Some NoWeight
+    else None
 
 -- what is answered: the value, or the reason with no place
 abbrev pub answer : {X : Type 0} → Option Reason → X → Result X Fault

@@ -1,16 +1,16 @@
 -- The rule of the largest remainders keeps the laws of a sharing.
-use Rattle.std.specs.Prelude.{◌≡◌, ℕ, zero, suc, ◌+◌, ◌-◌, ◌*◌, ◌/◌, ◌%◌, ◌<◌, ◌≤◌, ◌⊎◌, List, [], ◌∷◌, ◌++◌, length, take, replicate, sum, nat_lt, slice_index, refl}
-use Rattle.std.proofs.Common.{sym, ap, subst, ◌∙◌, inl, inr, ⊎_elim, mul-add, add-mul, div-add-mod', mod-lt, zero-mul, mul-zero, le_of_mul-le-mul_right, mul-le-mul_left, arith}
+use Rattle.std.specs.Prelude.{◌≡◌, ℕ, zero, suc, ◌+◌, ◌-◌, ◌*◌, ◌/◌, ◌%◌, ◌<◌, ◌≤◌, List, [], ◌∷◌, ◌++◌, length, take, replicate, sum, codes, nat_lt, if◌then◌else◌, slice_index, refl}
+use Rattle.std.proofs.Common.{sym, ap, subst, ◌∙◌, mul-add, add-mul, div-add-mod', mod-lt, zero-mul, mul-zero, le_of_mul-le-mul_right, mul-le-mul_left, rules, arith}
 use Rattle.std.proofs.Math.Nat.{zero-div, zero-mod, div-zero}
 use Rattle.std.proofs.lemmas.List.{map_more, length-map}
 use Rattle.std.proofs.lemmas.List.Sums.{sum_by_push, sum_by-take-le}
 use Rattle.std.specs.List.{AllZip}
-use Rattle.std.proofs.lemmas.Bool.{cases_lt, cases_order, le-ltb, lt-ltb, lt-leb, cond-true, cond-false}
-use Rattle.sharing.specs.Rule.{Fair, Near}
+use Rattle.std.proofs.lemmas.Bool.Decides.{nat_tests}
+use Rattle.sharing.specs.Rule.{Fair, Near, Title}
 use Rattle.sharing.specs.Remainders.{floors, rests, odd_units, added, shared_by, remainders}
 use Rattle.sharing.specs.Cutoff.{above, at_least, Cut, unit, spared, dealt}
 use Rattle.sharing.specs.Totals.{sum_cons}
-use Rattle.sharing.specs.Cutoffs.{above_cons, at_least_cons, above_le_at_least, at_least_none, dealt_above, dealt_at, dealt_spent, dealt_below, dealt_length, dealt_sum, cut_below, odd_units_dealt}
+use Rattle.sharing.specs.Cutoffs.{above_cons, at_least_cons, above_le_at_least, at_least_none, dealt_length, dealt_sum, cut_below, odd_units_dealt, unit_le}
 
 pub added_length : (xs ys : List ℕ) → length (added xs ys) ≡ length xs
 added_length [] ys = refl
@@ -41,17 +41,17 @@ rests_sum_le t w (x ∷ ws) pos =
     let rec = rests_sum_le t w ws pos in
     let lt = mod-lt (t * x) pos in
     let s = sum_cons r (rests t w ws) in
-    let a = above_cons 0 r (rests t w ws) in
-    ⊎_elim
-    (λ some. omega (arith, ap (λ v. v * w) (a ∙ ap (λ v. v + above 0 (rests t w ws)) (cond-true (nat_lt 0 r) 1 0 (lt-ltb 0 r some))), add-mul 1 (above 0 (rests t w ws)) w))
-    (λ none. omega (arith, ap (λ v. v * w) (a ∙ ap (λ v. v + above 0 (rests t w ws)) (cond-false (nat_lt 0 r) 1 0 (le-ltb 0 r none))), add-mul 0 (above 0 (rests t w ws)) w))
-    (cases_lt 0 r)
+    let a = ap (λ v. v * w) (above_cons 0 r (rests t w ws)) in
+    let b = add-mul (if nat_lt 0 r then 1 else 0) (above 0 (rests t w ws)) w in
+    grind (arith, nat_tests)
 
 rests_below : (t w : ℕ) (ws : List ℕ) → 0 < w → at_least w (rests t w ws) ≡ 0
 rests_below t w [] pos = refl
 rests_below t w (x ∷ ws) pos =
-    let r = t * x % w in
-    at_least_cons w r (rests t w ws) ∙ ap (λ v. v + at_least w (rests t w ws)) (cond-false _ 1 0 (lt-leb w r (mod-lt (t * x) pos))) ∙ (let rec = rests_below t w ws pos in omega arith)
+    let rec = rests_below t w ws pos in
+    let lt = mod-lt (t * x) pos in
+    let a = at_least_cons w (t * x % w) (rests t w ws) in
+    grind (arith, nat_tests)
 
 -- the parts rounded down do not pass the total
 pub floors_sum_le : (t w : ℕ) (ws : List ℕ) → 0 < w → sum ws ≤ w → sum (floors t w ws) ≤ t
@@ -69,6 +69,10 @@ floors_over_none t (x ∷ ws) = omega (arith, sum_cons (t * x / 0) (floors t 0 w
 pub floors_front_le : (t w : ℕ) (ws : List ℕ) (i : ℕ) → w ≡ sum ws → sum (floors t w (take i ws)) ≤ t
 floors_front_le t zero ws i e = omega (arith, floors_over_none t (take i ws))
 floors_front_le t (suc w) ws i e = floors_sum_le t (suc w) (take i ws) (omega arith) (omega (arith, sum_by-take-le (λ x. x) ws i))
+
+-- a claimant's part fits what the claimants before it leave
+pub floor_fits : (t w : ℕ) (ws : List ℕ) (i : ℕ) → w ≡ sum ws → i < length ws → sum (floors t w (take i ws)) + t * slice_index ws i / w ≤ t
+floor_fits t w ws i e h = omega (arith, floors_front t w ws i h, floors_front_le t w ws (i + 1) e)
 
 -- the units left over, by the code's and the rule's words
 abbrev pub left_over : ℕ → ℕ → List ℕ → ℕ
@@ -91,9 +95,10 @@ left_le_length t ws pos =
 rests_of_none : (k w : ℕ) (ws : List ℕ) → above k (rests 0 w ws) ≡ 0
 rests_of_none k w [] = refl
 rests_of_none k w (x ∷ ws) =
-    let r = 0 * x % w in
-    let z : r ≡ 0 = simp (zero-mul, zero-mod) in
-    above_cons k r (rests 0 w ws) ∙ ap (λ v. v + above k (rests 0 w ws)) (cond-false _ 1 0 (le-ltb k r (omega arith))) ∙ (let rec = rests_of_none k w ws in omega arith)
+    let z : 0 * x % w ≡ 0 = simp (zero-mul, zero-mod) in
+    let rec = rests_of_none k w ws in
+    let a = above_cons k (0 * x % w) (rests 0 w ws) in
+    grind (arith, nat_tests)
 
 -- of an accepted pot: there are claimants enough for the units left over, and no remainder passes the sum of the weights
 pub takers : (t : ℕ) (ws : List ℕ) → (0 < t → 0 < sum ws) → left_over t (sum ws) ws ≤ length (rests t (sum ws) ws)
@@ -115,48 +120,31 @@ shared_dealt t w k ws cut =
 abbrev pub given : ℕ → ℕ → ℕ → ℕ → List ℕ → List ℕ
 given t w k e ws = added (floors t w ws) (dealt k e (rests t w ws))
 
-pub given_more : (t w k e x r s k' e' : ℕ) (ws : List ℕ) → r ≡ t * x % w → s ≡ t * x / w + unit k e r → k' ≡ k → e' ≡ spared k e r → given t w k e (x ∷ ws) ≡ s ∷ given t w k' e' ws
-given_more t w k e x r s k' e' ws at n c d =
-    ap (λ v. (t * x / w + unit k e v) ∷ given t w k (spared k e v) ws) (sym at)
-    ∙ ap (λ (v : ℕ). v ∷ given t w k (spared k e r) ws) (sym n)
-    ∙ ap (λ v. s ∷ given t w v (spared k e r) ws) (sym c)
-    ∙ ap (λ v. s ∷ given t w k' v ws) (sym d)
-
--- a claimant's part of a pot whose weights add up to w
-pub floor_le : (t w : ℕ) (ws : List ℕ) (i : ℕ) → w ≡ sum ws → i < length ws → t * slice_index ws i / w ≤ t
-floor_le t w ws i e h = omega (arith, floors_front t w ws i h, floors_front_le t w ws (i + 1) e)
-
-near_one : (t w x u : ℕ) → 0 < w → (u ≡ 0) ⊎ ((u ≡ 1) × (0 < t * x % w)) → Near t w x (t * x / w + u)
-near_one t w x u pos (inl e) = omega (arith, ap (λ v. v * w) e, add-mul (t * x / w) u w, zero-mul w, div-add-mod' (t * x) w, mod-lt (t * x) pos)
-near_one t w x u pos (inr (e, some)) = omega (arith, ap (λ v. v * w) e, add-mul (t * x / w) u w, div-add-mod' (t * x) w, mod-lt (t * x) pos)
-
-above_none : (r k e : ℕ) → r ≡ k → 0 < e → (k ≡ 0 → e ≡ 0) → 0 < r
-above_none r k e at p none = ⊎_elim (λ h. h) (λ z. absurd (omega (arith, none (omega arith)))) (cases_lt 0 r)
+near_one : (t w x u : ℕ) → 0 < w → u ≤ 1 → (0 < u → 0 < t * x % w) → Near t w x (t * x / w + u)
+near_one t w x zero pos le some = omega (arith, div-add-mod' (t * x) w, mod-lt (t * x) pos)
+near_one t w x (suc u) pos le some = omega (arith, some (omega arith), add-mul (t * x / w) 1 w, ap (λ v. (t * x / w + suc v) * w) (let z : u ≡ 0 = omega arith in z), div-add-mod' (t * x) w, mod-lt (t * x) pos)
 
 -- no claimant with remainder 0 has an odd unit, so each share is near
 pub near_dealt : (t w k e : ℕ) (ws : List ℕ) → 0 < w → (k ≡ 0 → e ≡ 0) → AllZip (Near t w) ws (added (floors t w ws) (dealt k e (rests t w ws)))
 near_dealt t w k e [] pos none = tt
 near_dealt t w k e (x ∷ ws) pos none =
-    let r = t * x % w in
-    let rs = rests t w ws in
-    let Goal : List ℕ → Type 0 = λ us. AllZip (Near t w) (x ∷ ws) (added (floors t w (x ∷ ws)) us) in
-    ⊎_elim
-    (λ at. ⊎_elim
-    (λ p. subst Goal (sym (dealt_at k e r rs at p)) (near_one t w x 1 pos (inr (refl, above_none r k e at p none)), near_dealt t w k (e - 1) ws pos (λ z. omega (arith, none z))))
-    (λ z. let zero-e : e ≡ 0 = omega arith in subst Goal (sym (ap (λ v. dealt k v (r ∷ rs)) zero-e ∙ dealt_spent k r rs (omega arith))) (near_one t w x 0 pos (inl refl), near_dealt t w k 0 ws pos (λ _. refl)))
-    (cases_lt 0 e))
-    (⊎_elim
-    (λ lt. subst Goal (sym (dealt_below k e r rs lt)) (near_one t w x 0 pos (inl refl), near_dealt t w k e ws pos none))
-    (λ gt. subst Goal (sym (dealt_above k e r rs gt)) (near_one t w x 1 pos (inr (refl, omega arith)), near_dealt t w k e ws pos none)))
-    (cases_order r k)
+    let r = t * x % w in (
+      near_one t w x (unit k e r) pos (unit_le k e r) (λ h. grind (arith, nat_tests)),
+      near_dealt t w k (spared k e r) ws pos (λ z. grind (arith, nat_tests)),
+    )
 
 odd_units_none : (earlier later : List ℕ) → odd_units 0 earlier later ≡ replicate (length later) 0
 odd_units_none xs [] = refl
-odd_units_none xs (r ∷ ys) = ap (λ (v : ℕ). v ∷ odd_units 0 (xs ++ r ∷ []) ys) (cond-false _ 1 0 (le-ltb _ 0 (omega arith))) ∙ ap (λ (v : List ℕ). 0 ∷ v) (odd_units_none (xs ++ r ∷ []) ys)
+odd_units_none xs (r ∷ ys) =
+    let rec = odd_units_none (xs ++ r ∷ []) ys in
+    grind (arith, nat_tests)
 
 floors_none : (w : ℕ) (ws : List ℕ) → floors 0 w ws ≡ replicate (length ws) 0
 floors_none w [] = refl
-floors_none w (x ∷ ws) = ap (λ (v : ℕ). v ∷ floors 0 w ws) (simp (zero-mul, zero-div)) ∙ ap (λ (v : List ℕ). 0 ∷ v) (floors_none w ws)
+floors_none w (x ∷ ws) =
+    let rec = floors_none w ws in
+    let z : 0 * x / w ≡ 0 = simp (zero-mul, zero-div) in
+    cc
 
 added_none : (n : ℕ) → added (replicate n 0) (replicate n 0) ≡ replicate n 0
 added_none zero = refl
@@ -199,3 +187,6 @@ remainders_fair = record {
   near = λ t ws pos. near_by t ws pos (some_cut t ws pos).0 (some_cut t ws pos).1;
   none = λ ws e. remainders_nothing (sum ws) ws;
 }
+
+pub remainders_titled : Title (codes "remainders")
+remainders_titled = search rules

@@ -1,5 +1,5 @@
 -- The rule of the largest remainders.
-use Rattle.std.specs.Prelude.{ℕ, ◌+◌, ◌-◌, ◌*◌, ◌/◌, ◌%◌, cond, ltb, List, [], ◌∷◌, ◌++◌, map, sum, count_by, nat_le, nat_lt}
+use Rattle.std.specs.Prelude.{ℕ, ◌+◌, ◌-◌, ◌*◌, ◌/◌, ◌%◌, if◌then◌else◌, List, [], ◌∷◌, ◌++◌, map, sum, count_by, nat_le, nat_lt}
 
 -- each claimant's part rounded down, and its remainder
 abbrev pub floors : ℕ → ℕ → List ℕ → List ℕ
@@ -10,13 +10,13 @@ rests total all weights = map (λ w. total * w % all) weights
 
 -- how many go before a claimant: the earlier ones with a remainder as large, and the later ones with a larger one
 abbrev pub ahead : List ℕ → ℕ → List ℕ → ℕ
-ahead earlier rest later = count_by (λ x. nat_le rest x) earlier + count_by (λ x. ltb rest x) later
+ahead earlier rest later = count_by (λ x. nat_le rest x) earlier + count_by (λ x. nat_lt rest x) later
 
 -- one unit to each claimant that fewer than `left` go before
 abbrev pub odd_units : ℕ → List ℕ → List ℕ → List ℕ
 odd_units left earlier [] = []
 odd_units left earlier (rest ∷ later) =
-    cond (nat_lt (ahead earlier rest later) left) 1 0 ∷ odd_units left (earlier ++ rest ∷ []) later
+    (if nat_lt (ahead earlier rest later) left then 1 else 0) ∷ odd_units left (earlier ++ rest ∷ []) later
 
 -- two lists, entry by entry
 abbrev pub added : List ℕ → List ℕ → List ℕ

@@ -1,9 +1,9 @@
 -- The rule of the running sum keeps the laws of a sharing.
-use Rattle.std.specs.Prelude.{◌≡◌, ℕ, suc, ◌+◌, ◌-◌, ◌*◌, ◌/◌, ◌<◌, List, [], ◌∷◌, length, replicate, sum, refl}
-use Rattle.std.proofs.Common.{sym, ap, ◌∙◌, mul-add, add-mul, div-mul-le_self, mul-div_cancel, mul-zero, zero-mul, add-zero, zero-add, arith}
+use Rattle.std.specs.Prelude.{◌≡◌, ℕ, suc, ◌+◌, ◌-◌, ◌*◌, ◌/◌, ◌<◌, List, [], ◌∷◌, length, replicate, sum, codes, refl}
+use Rattle.std.proofs.Common.{sym, ap, ◌∙◌, mul-add, add-mul, div-mul-le_self, mul-div_cancel, mul-zero, zero-mul, add-zero, zero-add, rules, arith}
 use Rattle.std.proofs.Math.Nat.{lt-div-mul-add, zero-div}
 use Rattle.std.specs.List.{AllZip}
-use Rattle.sharing.specs.Rule.{Fair, Near}
+use Rattle.sharing.specs.Rule.{Fair, Near, Title}
 use Rattle.sharing.specs.Running.{running, running_from}
 use Rattle.sharing.specs.Totals.{sum_cons}
 use Rattle.sharing.specs.Parts.{rising}
@@ -41,3 +41,6 @@ running_fair = record {
   near = λ t ws pos. near t (sum ws) 0 ws pos;
   none = λ ws e. running_nothing (sum ws) 0 ws;
 }
+
+pub running_titled : Title (codes "running")
+running_titled = search rules

@@ -33,5 +33,5 @@ pub fn share_out<R: Sharing>(
     ensures modest { Modest (R.shares rule.now) }
 {
     share_by_law(rule, total, weights, place)?;
-    Ok(sum_of(&place[0..weights.len()]))
+    Ok(sum_of(&place[..weights.len()]))
 }

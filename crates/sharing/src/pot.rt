@@ -7,28 +7,40 @@ use crate::sums::sum_of;
 use fault::place::Place;
 use fault::reason::Reason;
 use fault::refusal::Fault;
+use std::marker::Model;
 
 pub const MOST_CLAIMANTS: usize = 256;
 // Of a total and of the sum of the weights.
 pub const MOST_UNITS: u32 = 100_000_000;
 
-// A total, and the sum of the weights that it is shared by.
-#[derive(Clone, Copy)]
-pub struct Pot {
+// A sharing that no rule refuses: a total, the weights that it is shared by, and their sum.
+#[derive(Clone, Drop)]
+pub struct Pot<'a> {
     pub total: u32,
+    pub weights: &'a [u32],
     pub all: u32,
 }
 
-fn refuse(reason: Reason) -> Result<Pot, Fault>
+impl<'a> Model for Pot<'a> {
+    ghost use Rattle.sharing.specs.Accepted.{Accepted, WithinLimits};
+
+    ghost Value = { Accepted };
+
+    ghost view = { λ p. record { total = p.total; weights = p.weights.now } };
+
+    ghost invariant = { λ p. WithinLimits p.total p.weights.now p.all };
+}
+
+fn refuse<T>(reason: Reason) -> Result<T, Fault>
     ensures { result ≡ Err (fault_of reason Nowhere) }
 {
     Err(Fault::new(reason, Place::Nowhere))
 }
 
-impl Pot {
-    // The pot of a sharing that no rule refuses, into a place for `room` shares.
-    pub fn admit(total: u32, weights: &[u32], room: usize) -> Result<Pot, Fault>
-        ensures { result ≡ answer (refusal total weights.now room) (record { total = total; all = sum weights.now }) }
+impl<'a> Pot<'a> {
+    // The pot of a sharing into a place for `room` shares.
+    pub fn admit(total: u32, weights: &'a [u32], room: usize) -> Result<Pot<'a>, Fault>
+        ensures { result ≡ answer (refusal total weights.now room) (record { total = total; weights = weights.now }) }
     {
         if room < weights.len() {
             return refuse(Reason::PlaceTooShort);
@@ -37,7 +49,7 @@ impl Pot {
             return refuse(Reason::SharingTooLarge);
         }
         let all = sum_of(weights);
-        if total > MOST_UNITS || all > MOST_UNITS as u64 {
+        if total > MOST_UNITS || all > u64::from(MOST_UNITS) {
             return refuse(Reason::SharingTooLarge);
         }
         if total > 0 && all == 0 {
@@ -45,28 +57,35 @@ impl Pot {
         }
         Ok(Pot {
             total,
+            weights,
             all: all as u32,
         })
     }
 
-    // The whole units that fall to a weight: none where nobody has a weight.
-    pub(crate) fn floor(self, weight: u32) -> u64
-        ensures { result ≡ self.total * weight / self.all }
+    fn product(&self, weight: u32) -> u64
+        ensures { result ≡ self.now.total * weight }
     {
-        if self.all == 0 {
-            return 0;
-        }
-        self.total as u64 * weight as u64 / self.all as u64
+        u64::from(self.total) * u64::from(weight)
+    }
+
+    // The whole units that fall to a weight: none where nobody has a weight.
+    #[tactic(auto, using(crate::specs::Parts::capped))]
+    pub(crate) fn floor(&self, weight: u32) -> u32
+        requires { weight ≤ sum self.now.weights }
+        ensures { result ≡ self.now.total * weight / sum self.now.weights }
+    {
+        self.product(weight)
+            .checked_div(u64::from(self.all))
+            .unwrap_or(0) as u32
     }
 
     // What the whole units leave of a weight's part, over the sum of the weights.
-    pub(crate) fn rest(self, weight: u32) -> u32
-        requires { weight ≤ self.all }
-        ensures { result ≡ self.total * weight % self.all }
+    pub(crate) fn rest(&self, weight: u32) -> u32
+        requires { weight ≤ sum self.now.weights }
+        ensures { result ≡ self.now.total * weight % sum self.now.weights }
     {
-        if self.all == 0 {
-            return 0;
-        }
-        (self.total as u64 * weight as u64 % self.all as u64) as u32
+        self.product(weight)
+            .checked_rem(u64::from(self.all))
+            .unwrap_or(0) as u32
     }
 }

@@ -1,56 +1,49 @@
-ghost use Rattle.std.specs.Prelude.{◌≡◌, ◌-◌, ◌<◌, ◌≤◌, length, codes, sum};
-ghost use Rattle.sharing.specs.Remainders.{floors, rests, added, remainders};
-ghost use Rattle.sharing.specs.Cutoff.{above, Cut, unit, spared, dealt};
-ghost use Rattle.sharing.specs.RemainderLaws.{remainders_fair};
-ghost use Rattle.std.proofs.Common.{rules};
+ghost use Rattle.std.specs.Prelude.{◌≡◌, ◌-◌, ◌≤◌, length, codes, sum};
+ghost use Rattle.sharing.specs.Remainders.{floors, rests, remainders};
+ghost use Rattle.sharing.specs.Cutoff.{above, Cut, unit, spared};
+ghost use Rattle.sharing.specs.RemainderLaws.{given, remainders_fair, remainders_titled};
 
 use crate::pot::Pot;
 use crate::rule::Sharing;
 use fault::refusal::Fault;
 
 // Each claimant gets its part rounded down; the units left over go one each to the largest remainders, the earlier first among equals.
-#[derive(Clone, Copy)]
+#[derive(Clone, Copy, PartialEq, Eq, Debug, Default)]
 pub struct Remainders;
 
 // Writes each claimant's remainder, and tells the units left over.
-fn write_rests(pot: Pot, weights: &[u32], place: &mut [u32]) -> u32
-    requires room { length place.old ≡ length weights.now }
-    requires sum { pot.all ≡ sum weights.now }
-    ensures left { result ≡ pot.total - sum (floors pot.total pot.all weights.now) }
-    ensures after { place.new ≡ rests pot.total pot.all weights.now }
+fn write_rests(pot: &Pot, place: &mut [u32]) -> u32
+    requires { length place.old ≡ length pot.now.weights }
+    ensures left { result ≡ pot.now.total - sum (floors pot.now.total (sum pot.now.weights) pot.now.weights) }
+    ensures after { place.new ≡ rests pot.now.total (sum pot.now.weights) pot.now.weights }
 {
     let mut left = pot.total;
-    for (i, weight) in weights.iter().enumerate() {
-        left -= pot.floor(*weight) as u32;
+    // By index: a proof knows nothing of what a zip over `iter_mut` has written.
+    for (i, weight) in pot.weights.iter().enumerate() {
+        left -= pot.floor(*weight);
         place[i] = pot.rest(*weight);
     }
     left
 }
 
-fn count_above(rests: &[u32], limit: u32) -> u32
-    requires { length rests.now ≤ 256 }
+fn count_above(rests: &[u32], limit: u32) -> usize
     ensures { result ≡ above limit rests.now }
 {
-    let mut count = 0;
-    for rest in rests {
-        if *rest > limit {
-            count += 1;
-        }
-    }
-    count
+    rests.iter().filter(|rest| **rest > limit).count()
 }
 
 // The remainder that parts those who get one of the units left over from those who do not, by halving; none is above `most`.
-fn find_cutoff(rests: &[u32], left: u32, most: u32) -> u32
-    requires few { length rests.now ≤ 256 }
+#[tactic(auto, using(crate::specs::Cutoffs::at_least_none))]
+fn find_cutoff(rests: &[u32], left: usize, most: u32) -> u32
     requires takers { left ≤ length rests.now }
     requires bound { above most rests.now ≡ 0 }
     ensures { Cut left result rests.now }
 {
+    // std's `partition_point` halves a slice, and no range of numbers.
     let mut low = 0;
     let mut high = most;
     while low < high {
-        let middle = low + (high - low) / 2;
+        let middle = low.midpoint(high);
         if count_above(rests, middle) <= left {
             high = middle;
         } else {
@@ -64,7 +57,7 @@ fn find_cutoff(rests: &[u32], left: u32, most: u32) -> u32
 #[derive(Drop)]
 struct OddUnits {
     cutoff: u32,
-    spare: u32,
+    spare: usize,
 }
 
 impl OddUnits {
@@ -86,30 +79,25 @@ impl OddUnits {
 }
 
 // Writes each claimant's share.
-fn write_shares(pot: Pot, mut odd: OddUnits, weights: &[u32], place: &mut [u32])
-    requires room { length place.old ≡ length weights.now }
-    requires sum { pot.all ≡ sum weights.now }
-    requires small { pot.total ≤ 100000000 }
-    ensures { place.new ≡ added (floors pot.total pot.all weights.now) (dealt odd.cutoff odd.spare (rests pot.total pot.all weights.now)) }
+fn write_shares(pot: &Pot, mut odd: OddUnits, place: &mut [u32])
+    requires { length place.old ≡ length pot.now.weights }
+    ensures { place.new ≡ given pot.now.total (sum pot.now.weights) odd.cutoff odd.spare pot.now.weights }
 {
-    for (i, weight) in weights.iter().enumerate() {
-        place[i] = pot.floor(*weight) as u32 + odd.next(pot.rest(*weight));
+    // By index, as in `write_rests`.
+    for (i, weight) in pot.weights.iter().enumerate() {
+        place[i] = pot.floor(*weight) + odd.next(pot.rest(*weight));
     }
 }
 
 // Fills the place, which is as long as the weights and holds the remainders on the way.
-fn spread(pot: Pot, weights: &[u32], place: &mut [u32])
-    requires room { length place.old ≡ length weights.now }
-    requires few { length weights.now ≤ 256 }
-    requires sum { pot.all ≡ sum weights.now }
-    requires weighed { 0 < pot.total → 0 < pot.all }
-    requires small { pot.total ≤ 100000000 }
-    ensures { place.new ≡ remainders pot.total weights.now }
+fn spread(pot: &Pot, place: &mut [u32])
+    requires { length place.old ≡ length pot.now.weights }
+    ensures { place.new ≡ remainders pot.now.total pot.now.weights }
 {
-    let left = write_rests(pot, weights, place);
+    let left = write_rests(pot, place) as usize;
     let cutoff = find_cutoff(place, left, pot.all);
     let spare = left - count_above(place, cutoff);
-    write_shares(pot, OddUnits { cutoff, spare }, weights, place);
+    write_shares(pot, OddUnits { cutoff, spare }, place);
 }
 
 impl Sharing for Remainders {
@@ -119,11 +107,12 @@ impl Sharing for Remainders {
 
     ghost fair = { λ rule. remainders_fair };
 
-    ghost named = { Prim.search rules };
+    ghost named = { λ rule. remainders_titled };
 
+    // Both rules have these lines: shared, they would need a contract on `spread` that is longer.
     fn share(&self, total: u32, weights: &[u32], place: &mut [u32]) -> Result<(), Fault> {
         let pot = Pot::admit(total, weights, place.len())?;
-        spread(pot, weights, &mut place[0..weights.len()]);
+        spread(&pot, &mut place[..weights.len()]);
         Ok(())
     }
 

@@ -5,9 +5,5 @@ pub(crate) fn sum_of(values: &[u32]) -> u64
     requires { length values.now ≤ 256 }
     ensures { result ≡ sum values.now }
 {
-    let mut sum = 0u64;
-    for value in values {
-        sum += *value as u64;
-    }
-    sum
+    values.iter().map(|value| u64::from(*value)).sum()
 }

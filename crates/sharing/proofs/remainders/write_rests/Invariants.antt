@@ -3,6 +3,7 @@ use Rattle.sharing.specs.Remainders.{floors, rests}
 use Rattle.sharing.proofs.remainders.write_rests.Given as goal
 
 abbrev pub invariant-loop-i : goal.invariant-loop-i
-invariant-loop-i l =
-    (l.left + sum (floors l.pot.total l.pot.all (take l.i l.weights)) ≡ l.pot.total)
-    × (take l.i l.place ≡ rests l.pot.total l.pot.all (take l.i l.weights))
+invariant-loop-i l = record {
+  left : l.left + sum (floors l.pot.total (sum l.pot.weights) (take l.i l.pot.weights)) ≡ l.pot.total;
+  written : take l.i l.place ≡ rests l.pot.total (sum l.pot.weights) (take l.i l.pot.weights);
+}

@@ -1,10 +1,10 @@
-use Rattle.std.proofs.Common.{Err, sym, ap, ◌∙◌}
-use Rattle.std.proofs.lemmas.Result.{err_from_is_err_and}
-use Rattle.sharing.proofs.Answered.{err_is_refusal}
+use Rattle.std.proofs.Common.{sym, arith}
+use Rattle.std.proofs.lemmas.Grind.{common_steps}
+use Rattle.sharing.specs.RemainderLaws.{remainders_fair}
+use Rattle.sharing.proofs.Answered.{placed_of_ok}
 use Rattle.sharing.proofs.remainders.RemaindersSharing.share.Goals as goal
 
-pub returns-in_err-pot : goal.returns-in_err-pot
-returns-in_err-pot c =
-    let p = err_from_is_err_and c.from_residual.result c.from_residual.ensures.1 in
-    let r = err_is_refusal _ _ (tt {0}) _ (sym c.in_err-pot.ensures) in
-    record { value = p.1 ∙ ap Err p.2 ∙ sym r.0; after = sym (r.1 _ _) }
+pub returns-clause-after : goal.returns-clause-after
+returns-clause-after c =
+    let long = remainders_fair.long c.args.total c.args.weights.now in
+    placed_of_ok _ _ _ _ _ _ (sym c.in_ok-pot.ensures) (grind (arith, common_steps, long))

@@ -1,6 +1,0 @@
-use Rattle.std.proofs.Common.{arith}
-use Rattle.sharing.specs.Cutoffs.{at_least_none}
-use Rattle.sharing.proofs.remainders.find_cutoff.Goals as goal
-
-pub loop-low-init : goal.loop-low-init
-loop-low-init c = (omega arith, omega (arith, at_least_none c.args.rests.now), omega arith, omega arith)
