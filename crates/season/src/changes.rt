@@ -14,13 +14,13 @@ use std::test::Fail;
 fn changes_while_correcting(rt: HostRuntime) -> Result<(), Fail> {
     let mut account = seven_closed()?;
     account.read(1, 9)?;
-    account.perform(correct(2, 200));
+    account.perform(correct(2, 200))?;
     let changes = account.changes()?;
     assert_eq!(rt; account.change(2), Ok(-15));
     let unknown = Fault::new(Reason::UnknownRoom, Place::Room(9));
     assert_eq!(rt; account.change(9), Err(unknown));
     // What was told outlives the correction.
-    account.perform(book(7, 1));
+    account.perform(book(7, 1))?;
     assert!(rt; changes.as_slice() == [1, -15, 14].as_slice());
     Ok(())
 }
@@ -46,9 +46,9 @@ fn changes_of(
     end: Call,
 ) -> Result<[i64; 3], Fault> {
     let begun = account.perform(correct(room, reading));
-    assert!(rt; matches!(begun, Answer::Corrected { house: 7, .. }));
+    assert!(rt; matches!(begun, Ok(Answer::Corrected { house: 7, .. })));
     let changes = of_each_room(|room| account.change(room))?;
-    assert_eq!(rt; account.perform(end), Answer::Done);
+    assert_eq!(rt; account.perform(end), Ok(Answer::Done));
     Ok(changes)
 }
 

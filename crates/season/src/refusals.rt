@@ -29,10 +29,7 @@ fn fault_of_call(account: &mut Account<Remainders>, call: Call) -> Option<Fault>
         }
         Call::Bill { room } => account.bill(room).err(),
         Call::Balance { room } => account.balance(room).err(),
-        Call::Book { .. } | Call::Withdraw { .. } => match account.perform(call) {
-            Answer::Refused(fault) => Some(fault),
-            _ => None,
-        },
+        Call::Book { .. } | Call::Withdraw { .. } => account.perform(call).err(),
     }
 }
 
@@ -41,7 +38,7 @@ fn check_refused(rt: &impl Abort, account: &mut Account<Remainders>, cases: &[(C
     for (call, number, place) in cases {
         let fault = fault_of_call(account, *call);
         if let Some(fault) = fault {
-            assert_eq!(rt; account.perform(*call), Answer::Refused(fault));
+            assert_eq!(rt; account.perform(*call), Err(fault));
         }
         let told = fault.map(|fault| (fault.number(), fault.layer, fault.place));
         assert_eq!(rt;
@@ -100,7 +97,7 @@ fn a_period_is_closed(rt: HostRuntime) -> Result<(), Fail> {
         ],
     );
     // While a correction is open.
-    account.perform(correct(2, 700));
+    account.perform(correct(2, 700))?;
     check_refused(
         &rt,
         &mut account,
@@ -116,7 +113,7 @@ fn a_period_is_closed(rt: HostRuntime) -> Result<(), Fail> {
     );
     assert_eq!(rt; account.read(1, 1), Ok(()));
     assert_eq!(rt; account.bill(2), Ok((216, 43)));
-    assert_eq!(rt; account.perform(book(house, period)), Answer::Done);
+    assert_eq!(rt; account.perform(book(house, period)), Ok(Answer::Done));
     assert_eq!(rt; account.bill(2), Ok((700, 0)));
     Ok(())
 }

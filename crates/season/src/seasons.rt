@@ -102,21 +102,21 @@ fn a_slip_fits_by_its_numbers(rt: HostRuntime) -> Result<(), Fail> {
     other.close(500, None)?;
     let mismatch = Some(Fault::new(Reason::SlipMismatch, Place::Nowhere));
     assert_eq!(rt; book_elsewhere(&mut account, &mut twin, 2, 200)?, mismatch);
-    twin.perform(correct(2, 100));
-    later.perform(correct(2, 100));
-    other.perform(correct(2, 100));
+    twin.perform(correct(2, 100))?;
+    later.perform(correct(2, 100))?;
+    other.perform(correct(2, 100))?;
     assert_eq!(rt; book_elsewhere(&mut account, &mut later, 2, 200)?, mismatch);
     assert_eq!(rt; book_elsewhere(&mut account, &mut other, 2, 200)?, mismatch);
     assert_eq!(rt; book_elsewhere(&mut account, &mut twin, 2, 200)?, None);
     assert_eq!(rt; twin.bill(2), Ok((100, 53)));
     // Its own slip is gone, and the numbers end the correction.
-    assert_eq!(rt; account.perform(withdraw(7, 1)), Answer::Done);
+    assert_eq!(rt; account.perform(withdraw(7, 1)), Ok(Answer::Done));
     assert_eq!(rt; figures_of(&account)?, CLOSED);
     Ok(())
 }
 
-fn refused(reason: Reason) -> Answer {
-    Answer::Refused(Fault::new(reason, Place::Nowhere))
+fn refused(reason: Reason) -> Result<Answer, Fault> {
+    Err(Fault::new(reason, Place::Nowhere))
 }
 
 #[test]
@@ -134,10 +134,10 @@ fn the_600th_closing_is_the_last(rt: HostRuntime) -> Result<(), Fail> {
     let (house, period) = (1, 600);
     assert_eq!(rt;
         account.perform(correct(1, 0)),
-        Answer::Corrected { house, period }
+        Ok(Answer::Corrected { house, period })
     );
     assert_eq!(rt; account.perform(more), refused(Reason::CorrectionOpen));
-    assert_eq!(rt; account.perform(book(house, period)), Answer::Done);
+    assert_eq!(rt; account.perform(book(house, period)), Ok(Answer::Done));
     assert_eq!(rt; account.balance(1), Ok(29_950_000_000));
     Ok(())
 }
@@ -155,27 +155,27 @@ fn a_run_answers_each_call(rt: HostRuntime) -> Result<(), Fail> {
         Call::Balance { room: 3 },
         withdraw(7, 1),
     ];
-    let mut answers = [Answer::Balanced(9); 10];
+    let mut answers = [Ok(Answer::Balanced(9)); 10];
     let house = build(7, SEVEN, &SEVEN_ROOMS)?;
     let account = run(house, Remainders, &calls, &mut answers);
     assert_eq!(rt; figures_of(&account)?, BOOKED);
     assert_eq!(rt;
         answers,
         [
-            Answer::Done,
-            Answer::Closed(1),
-            Answer::Corrected {
+            Ok(Answer::Done),
+            Ok(Answer::Closed(1)),
+            Ok(Answer::Corrected {
                 house: 7,
                 period: 1,
-            },
+            }),
             refused(Reason::CorrectionOpen),
             refused(Reason::SlipMismatch),
-            Answer::Done,
-            Answer::Billed(200, 44),
-            Answer::Balanced(401),
+            Ok(Answer::Done),
+            Ok(Answer::Billed(200, 44)),
+            Ok(Answer::Balanced(401)),
             refused(Reason::SlipMismatch),
             // Beyond the calls.
-            Answer::Balanced(9),
+            Ok(Answer::Balanced(9)),
         ]);
     Ok(())
 }
