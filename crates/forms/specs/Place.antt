@@ -1,11 +1,11 @@
--- What a token and a cursor stand for, and what reading an item gives.
+-- What a token stands for, where a line is being read, and what reading an item gives.
 use Rattle.std.specs.Prelude.{ℕ, ◌+◌, cond, List, length, take, drop, Ok, Err, Result, ◌==◌, nat_lt}
-use Rattle.std.specs.Str.Parse.{digits_value as value}
+use Rattle.std.specs.Str.Parse.{digits_value}
 use Rattle.fault.specs.declared.place.Place.{Place}
 use Rattle.fault.specs.declared.place.Place.TheVariants.{Text}
 use Rattle.forms.specs.declared.token.Token.{Token}
 use Rattle.forms.specs.declared.token.Token.TheVariants.{Word, Number}
-use Rattle.forms.specs.declared.cursor.Cursor.{Cursor}
+use Rattle.forms.specs.declared.misread.Misread.{Misread}
 use Rattle.forms.specs.Form.{Figure, common, numeral_at}
 
 abbrev pub figure_of : Token → Figure
@@ -22,18 +22,20 @@ bytes_of (Word letters line column) = letters.now
 bytes_of (Number digits value line column) = digits.now
 
 -- a result with the figure of its token
-abbrev pub seen : Result Token ℕ → Result Figure ℕ
+abbrev pub seen : Result Token Misread → Result Figure Misread
 seen (Ok t) = Ok (figure_of t)
-seen (Err column) = Err column
+seen (Err misread) = Err misread
+
+-- a result by the line in which it stops at a column
+abbrev pub on_line : {X : Type 0} → ℕ → Result X ℕ → Result X Misread
+on_line line (Ok x) = Ok x
+on_line line (Err column) = Err (record { line = line; column = column })
 
 -- where a line is being read, and what is left of it
 pub record Spot : Type 0 where
   pub line : ℕ
   pub column : ℕ
   pub rest : List ℕ
-
-abbrev pub spot_of : Cursor → Spot
-spot_of c = record { line = c.line; column = c.at + 1; rest = drop c.at c.text.now }
 
 abbrev pub spot_place : Spot → Place
 spot_place s = Text s.line s.column
@@ -54,7 +56,7 @@ abbrev pub numeral : List ℕ → List ℕ
 numeral bs = take (numeral_at bs) bs
 
 abbrev pub number_read : Spot → Result Figure ℕ
-number_read s = cond (numeral_at s.rest == 0) (Err s.column) (Ok (record { value = value 10 (numeral s.rest); column = s.column }))
+number_read s = cond (numeral_at s.rest == 0) (Err s.column) (Ok (record { value = digits_value 10 (numeral s.rest); column = s.column }))
 
 abbrev pub number_left : Spot → Spot
 number_left s = onward s (numeral_at s.rest)

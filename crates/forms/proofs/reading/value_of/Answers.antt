@@ -8,8 +8,8 @@ use Rattle.forms.proofs.reading.value_of.Goals as goal
 pub overflow_mul-value : goal.overflow_mul-value
 overflow_mul-value c = omega (arith, few_digits c.args.digits.now c.loop-digit.digit-index c.requires.digits c.loop-digit-test.true c.requires.few)
 
-pub overflow_sub-value : goal.overflow_sub-value
-overflow_sub-value c = omega (arith, digit_value c.args.digits.now c.loop-digit.digit-index c.requires.digits c.loop-digit-test.true)
+pub overflow_sub-digit : goal.overflow_sub-digit
+overflow_sub-digit c = omega (arith, digit_value c.args.digits.now c.loop-digit.digit-index c.requires.digits c.loop-digit-test.true)
 
 pub overflow_add-value : goal.overflow_add-value
 overflow_add-value c = omega (arith, few_digits c.args.digits.now c.loop-digit.digit-index c.requires.digits c.loop-digit-test.true c.requires.few, digit_value c.args.digits.now c.loop-digit.digit-index c.requires.digits c.loop-digit-test.true)
