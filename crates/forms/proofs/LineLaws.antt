@@ -1,6 +1,6 @@
 -- The first line of a text, and the lines behind it.
 use Rattle.std.proofs.Common.{◌≡◌, ℕ, suc, ◌+◌, ◌<◌, ◌≤◌, min, Bool, true, false, not, cond, eqb, ltb, List, [], ◌∷◌, length, take, drop, Some, None, Option, sym, refl, ap, ◌∙◌, arith}
-use Rattle.std.proofs.lemmas.Bool.{ltb-true, ltb-false}
+use Rattle.std.proofs.lemmas.Bool.{ltb-true, ltb-false, eqb-false}
 use Rattle.std.specs.List.{position, position_or_len}
 use Rattle.std.proofs.lemmas.List.{at_drop_more, at_drop_all}
 use Rattle.std.proofs.lemmas.Bool.{cond-true, cond-false}
@@ -40,6 +40,10 @@ first_from b (c ∷ bs) false h = ap (onto b) (h (omega arith))
 pub first_line : (bs : List ℕ) → 0 < length bs → lines bs ≡ take (line_length bs) bs ∷ lines (drop (line_length bs) bs)
 first_line [] h = absurd (omega arith)
 first_line (b ∷ bs) h = first_from b bs (eqb b 10) (first_line bs)
+
+pub next_line : (text line others : List ℕ) (n : ℕ) → line ≡ take n text → others ≡ drop n text → n ≡ line_length text → eqb (length text) 0 ≡ false → lines text ≡ line ∷ lines others
+next_line text line others n front back is some =
+    first_line text (omega (arith, eqb-false (length text) 0 some)) ∙ sym (λ i. (front ∙ ap (λ k. take k text) is) i ∷ lines ((back ∙ ap (λ k. drop k text) is) i))
 
 pub line_some : (bs : List ℕ) → 0 < length bs → 0 < line_length bs
 line_some [] h = absurd (omega arith)

@@ -6,7 +6,7 @@ use Rattle.fault.specs.declared.place.Place.TheVariants.{Text}
 use Rattle.forms.specs.declared.token.Token.{Token}
 use Rattle.forms.specs.declared.token.Token.TheVariants.{Word, Number}
 use Rattle.forms.specs.declared.misread.Misread.{Misread}
-use Rattle.forms.specs.Form.{Figure, common, numeral_at}
+use Rattle.forms.specs.Form.{Figure, Form, common, numeral_at, follow}
 
 abbrev pub figure_of : Token → Figure
 figure_of (Word letters line column) = record { value = 0; column = column }
@@ -21,15 +21,32 @@ abbrev pub bytes_of : Token → List ℕ
 bytes_of (Word letters line column) = letters.now
 bytes_of (Number digits value line column) = digits.now
 
--- a result with the figure of its token
-abbrev pub seen : Result Token Misread → Result Figure Misread
-seen (Ok t) = Ok (figure_of t)
+-- a figure and where it stands
+pub record Mark : Type 0 where
+  pub figure : Figure
+  pub place : Place
+
+abbrev pub mark_of : Token → Mark
+mark_of t = record { figure = figure_of t; place = place_of t }
+
+-- a figure of this line
+abbrev pub mark : ℕ → Figure → Mark
+mark line x = record { figure = x; place = Text line x.column }
+
+-- a result with the figure of its token, and where that stands
+abbrev pub seen : Result Token Misread → Result Mark Misread
+seen (Ok t) = Ok (mark_of t)
 seen (Err misread) = Err misread
 
 -- a result by the line in which it stops at a column
 abbrev pub on_line : {X : Type 0} → ℕ → Result X ℕ → Result X Misread
 on_line line (Ok x) = Ok x
 on_line line (Err column) = Err (record { line = line; column = column })
+
+-- the same of a figure, which stands in that line too
+abbrev pub read_on : ℕ → Result Figure ℕ → Result Mark Misread
+read_on line (Ok x) = Ok (mark line x)
+read_on line (Err column) = Err (record { line = line; column = column })
 
 -- where a line is being read, and what is left of it
 pub record Spot : Type 0 where
@@ -63,3 +80,7 @@ number_left s = onward s (numeral_at s.rest)
 
 abbrev pub end_read : Spot → Result (Unit {0}) ℕ
 end_read s = cond (length s.rest == 0) (Ok tt) (Err s.column)
+
+-- what a line says from a spot on, or where it stops being one of the form
+abbrev pub line_says : {X : Type 0} → Form X → Spot → Result X Misread
+line_says f s = on_line s.line (follow f s.column s.rest)

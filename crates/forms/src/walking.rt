@@ -1,6 +1,6 @@
 // Reading a line item by item.
 ghost use Rattle.std.specs.Prelude.{◌≡◌, ◌+◌, ◌≤◌, length, IfOk};
-ghost use Rattle.forms.specs.Place.{seen, on_line, spot_place, place_of, bytes_of, word_read, word_left, number_read, number_left, end_read, numeral};
+ghost use Rattle.forms.specs.Place.{seen, on_line, read_on, bytes_of, word_read, word_left, number_read, number_left, end_read, numeral};
 
 use crate::cursor::Cursor;
 use crate::misread::Misread;
@@ -42,8 +42,8 @@ impl<'a> Cursor<'a> {
 
     // Reads just these bytes. Refused, it tells the first byte that is another, and stays.
     pub fn word(&mut self, word: &[u8]) -> Result<Token<'a>, Misread>
-        ensures value { seen result ≡ on_line self.old.line (word_read self.old word.now) }
-        ensures token { IfOk result (λ t. (bytes_of t ≡ word.now) × (place_of t ≡ spot_place self.old)) }
+        ensures value { seen result ≡ read_on self.old.line (word_read self.old word.now) }
+        ensures bytes { IfOk result (λ t. bytes_of t ≡ word.now) }
         ensures after { self.new ≡ word_left self.old word.now }
     {
         let rest = self.rest();
@@ -62,8 +62,8 @@ impl<'a> Cursor<'a> {
 
     // Reads a number. Refused, it tells where, and stays.
     pub fn number(&mut self) -> Result<Token<'a>, Misread>
-        ensures value { seen result ≡ on_line self.old.line (number_read self.old) }
-        ensures token { IfOk result (λ t. (bytes_of t ≡ numeral self.old.rest) × (place_of t ≡ spot_place self.old)) }
+        ensures value { seen result ≡ read_on self.old.line (number_read self.old) }
+        ensures bytes { IfOk result (λ t. bytes_of t ≡ numeral self.old.rest) }
         ensures after { self.new ≡ number_left self.old }
     {
         let rest = self.rest();

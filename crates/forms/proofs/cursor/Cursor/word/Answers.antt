@@ -4,9 +4,9 @@ use Rattle.forms.specs.Form.{common}
 use Rattle.forms.proofs.Fronts.{common_full, common_small}
 use Rattle.forms.proofs.cursor.Cursor.word.Goals as goal
 
-pub returns-clause-token : goal.returns-clause-token
-returns-clause-token c =
+pub returns-clause-bytes : goal.returns-clause-bytes
+returns-clause-bytes c =
     let rest = c.rest-rest.result.now in
     let w = c.args.word.now in
     let all : c.front-same.result ≡ length w = omega arith in
-    (ap (λ n. take n rest) all ∙ common_full w rest (omega arith), search rules)
+    ap (λ n. take n rest) all ∙ common_full w rest (omega arith)
