@@ -1,8 +1,7 @@
 -- What reading an item gives, and how a form goes on behind it.
-use Rattle.std.proofs.Common.{◌≡◌, ℕ, ◌+◌, ◌<◌, ◌≤◌, Bool, true, false, cond, eqb, ltb, List, length, drop, Ok, Err, Result, sym, refl, ap, ◌∙◌, arith}
+use Rattle.std.proofs.Common.{◌≡◌, ℕ, Bool, true, false, cond, eqb, ltb, List, length, Ok, Err, Result, sym, refl, ap, ◌∙◌, arith}
 use Rattle.std.specs.Str.Parse.{digits_value}
-use Rattle.std.proofs.lemmas.List.{drop-drop}
-use Rattle.std.proofs.lemmas.Bool.{cond-true, cond-false, lt-ltb, le-ltb}
+use Rattle.std.proofs.lemmas.Bool.{cond-true, cond-false}
 use Rattle.forms.specs.Form.{Figure, Form, common, numeral_at, follow, word, number, done}
 use Rattle.forms.specs.declared.misread.Misread.{Misread}
 use Rattle.forms.specs.Place.{Mark, mark, on_line, read_on, Spot, onward, word_read, word_left, number_read, number_left, end_read, numeral, line_says}
@@ -94,43 +93,38 @@ stop_read line e (Err column) h =
     let here : e.column ≡ column = ap (λ (v : Misread). v.column) same in
     (ap Err here, ap (λ (k : ℕ). record { line = line; column = k }) here ∙ sym same)
 
-pub stop_figure : (line : ℕ) (e : Misread) (r : Result Figure ℕ) → Err e ≡ read_on line r → Err e ≡ on_line line r
+pub stop_figure : (line : ℕ) (e : Misread) (r : Result Figure ℕ) → Err e ≡ read_on line r → (Err e.column ≡ r) × (record { line = line; column = e.column } ≡ e)
 stop_figure line e (Ok x) h = absurd (stop_not_ok h)
-stop_figure line e (Err column) h = ap Err (misread_same h)
+stop_figure line e (Err column) h = stop_read {X = Figure} line e (Err column) (ap Err (misread_same h))
 
 end_line : (line : ℕ) (r : Result (Unit {0}) ℕ) → Ok tt ≡ on_line line r → Ok tt ≡ r
 end_line line (Ok u) h = refl
 end_line line (Err column) h = absurd (stop_not_ok (sym h))
 
 -- how a line goes on behind an item
-module _ {X : Type 0} (s : Spot) where
-  pub on_word : (w : List ℕ) (f : Form X) (s' : Spot) (m : Mark) → Ok m ≡ read_on s.line (word_read s w) → s' ≡ word_left s w → line_says (word w f) s ≡ line_says f s'
-  on_word w f s' m ok left =
-      let there : s.line ≡ s'.line = sym (ap (λ (v : Spot). v.line) left ∙ left_line s w) in
-      let on = then_word w f s s' m.figure (figure_read s.line m _ ok).0 left in
-      λ i. on_line (there i) (on i)
+pub on_word : {X : Type 0} (w : List ℕ) (f : Form X) (s s' : Spot) (m : Mark) → Ok m ≡ read_on s.line (word_read s w) → s' ≡ word_left s w → line_says (word w f) s ≡ line_says f s'
+on_word w f s s' m ok left =
+    let there : s.line ≡ s'.line = sym (ap (λ (v : Spot). v.line) left ∙ left_line s w) in
+    let on = then_word w f s s' m.figure (figure_read s.line m _ ok).0 left in
+    λ i. on_line (there i) (on i)
 
-  pub off_word : (w : List ℕ) (f : Form X) (e : Misread) → Err e ≡ read_on s.line (word_read s w) → line_says (word w f) s ≡ Err e
-  off_word w f e err =
-      let p = stop_read s.line e _ (stop_figure s.line e _ err) in
-      ap (on_line s.line) (no_word w f s e.column p.0) ∙ ap Err p.1
+pub off_word : {X : Type 0} (w : List ℕ) (f : Form X) (s : Spot) (e : Misread) → Err e ≡ read_on s.line (word_read s w) → line_says (word w f) s ≡ Err e
+off_word w f s e err = let p = stop_figure s.line e _ err in ap (on_line s.line) (no_word w f s e.column p.0) ∙ ap Err p.1
 
-  pub on_number : (f : Figure → Form X) (s' : Spot) (m : Mark) → Ok m ≡ read_on s.line (number_read s) → s' ≡ number_left s → line_says (number f) s ≡ line_says (f m.figure) s'
-  on_number f s' m ok left =
-      let there : s.line ≡ s'.line = sym (ap (λ (v : Spot). v.line) left) in
-      let on = then_number f s s' m.figure (figure_read s.line m _ ok).0 left in
-      λ i. on_line (there i) (on i)
+pub on_number : {X : Type 0} (f : Figure → Form X) (s s' : Spot) (m : Mark) → Ok m ≡ read_on s.line (number_read s) → s' ≡ number_left s → line_says (number f) s ≡ line_says (f m.figure) s'
+on_number f s s' m ok left =
+    let there : s.line ≡ s'.line = sym (ap (λ (v : Spot). v.line) left) in
+    let on = then_number f s s' m.figure (figure_read s.line m _ ok).0 left in
+    λ i. on_line (there i) (on i)
 
-  pub off_number : (f : Figure → Form X) (e : Misread) → Err e ≡ read_on s.line (number_read s) → line_says (number f) s ≡ Err e
-  off_number f e err =
-      let p = stop_read s.line e _ (stop_figure s.line e _ err) in
-      ap (on_line s.line) (no_number f s e.column p.0) ∙ ap Err p.1
+pub off_number : {X : Type 0} (f : Figure → Form X) (s : Spot) (e : Misread) → Err e ≡ read_on s.line (number_read s) → line_says (number f) s ≡ Err e
+off_number f s e err = let p = stop_figure s.line e _ err in ap (on_line s.line) (no_number f s e.column p.0) ∙ ap Err p.1
 
-  pub on_end : (x : X) → Ok tt ≡ on_line s.line (end_read s) → line_says (done x) s ≡ Ok x
-  on_end x ok = ap (on_line s.line) (then_end x s (end_line s.line (end_read s) ok))
+pub on_end : {X : Type 0} (x : X) (s : Spot) → Ok tt ≡ on_line s.line (end_read s) → line_says (done x) s ≡ Ok x
+on_end x s ok = ap (on_line s.line) (then_end x s (end_line s.line (end_read s) ok))
 
-  pub off_end : (x : X) (e : Misread) → Err e ≡ on_line s.line (end_read s) → line_says (done x) s ≡ Err e
-  off_end x e err = let p = stop_read s.line e (end_read s) err in ap (on_line s.line) (no_end x s e.column p.0) ∙ ap Err p.1
+pub off_end : {X : Type 0} (x : X) (s : Spot) (e : Misread) → Err e ≡ on_line s.line (end_read s) → line_says (done x) s ≡ Err e
+off_end x s e err = let p = stop_read s.line e (end_read s) err in ap (on_line s.line) (no_end x s e.column p.0) ∙ ap Err p.1
 
 -- at an exit by `?`
 pub exit_is : {X E : Type 0} (r : Result X E) (e : E) → (x : E) × (r ≡ Err x) × (x ≡ e) → r ≡ Err e

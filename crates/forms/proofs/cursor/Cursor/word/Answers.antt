@@ -1,7 +1,5 @@
-use Rattle.std.proofs.Common.{◌≡◌, length, take, ap, ◌∙◌, arith, rules}
-use Rattle.fault.specs.declared.place.Place.TheVariants.{Text}
-use Rattle.forms.specs.Form.{common}
-use Rattle.forms.proofs.Fronts.{common_full, common_small}
+use Rattle.std.proofs.Common.{◌≡◌, length, take, ap, ◌∙◌, arith}
+use Rattle.forms.proofs.Fronts.{common_full}
 use Rattle.forms.proofs.cursor.Cursor.word.Goals as goal
 
 pub returns-clause-bytes : goal.returns-clause-bytes
