@@ -126,6 +126,11 @@ on_end x s ok = ap (on_line s.line) (then_end x s (end_line s.line (end_read s) 
 pub off_end : {X : Type 0} (x : X) (s : Spot) (e : Misread) → Err e ≡ on_line s.line (end_read s) → line_says (done x) s ≡ Err e
 off_end x s e err = let p = stop_read s.line e (end_read s) err in ap (on_line s.line) (no_end x s e.column p.0) ∙ ap Err p.1
 
+-- a number behind a word stands in the word's line
+pub mark_behind : (w : List ℕ) (s s' : Spot) (m : Mark) → s' ≡ word_left s w → Ok m ≡ read_on s'.line (number_read s') → m ≡ mark s.line m.figure
+mark_behind w s s' m left ok =
+    (figure_read s'.line m _ ok).1 ∙ ap (λ (n : ℕ). mark n m.figure) (ap (λ (v : Spot). v.line) left ∙ left_line s w)
+
 -- at an exit by `?`
 pub exit_is : {X E : Type 0} (r : Result X E) (e : E) → (x : E) × (r ≡ Err x) × (x ≡ e) → r ≡ Err e
 exit_is r e p = p.1 ∙ ap Err p.2

@@ -1,11 +1,12 @@
 // Reading a line item by item.
-ghost use Rattle.std.specs.Prelude.{◌≡◌, ◌+◌, ◌≤◌, length, IfOk};
-ghost use Rattle.forms.specs.Place.{seen, on_line, read_on, bytes_of, word_read, word_left, number_read, number_left, end_read, numeral};
+ghost use Rattle.std.specs.Prelude.{◌≡◌, IfOk};
+ghost use Rattle.forms.specs.Place.{seen, on_line, read_on, bytes_of, spot_place, word_read, word_left, number_read, number_left, end_read, numeral};
 
 use crate::cursor::Cursor;
 use crate::misread::Misread;
 use crate::reading::{front, numeral_at, value_of};
 use crate::token::Token;
+use fault::place::Place;
 
 impl<'a> Cursor<'a> {
     pub fn new(text: &'a [u8], line: usize) -> Cursor<'a>
@@ -29,14 +30,23 @@ impl<'a> Cursor<'a> {
         self.at + 1
     }
 
-    // The line is lawful for so many bytes more.
-    fn misread(&self, lawful: usize) -> Misread
-        requires { lawful ≤ length self.now.rest }
-        ensures { result ≡ record { line = self.now.line; column = self.now.column + lawful } }
+    // Where the next byte stands, or would.
+    pub fn place(&self) -> Place
+        ensures { result ≡ spot_place self.now }
+    {
+        Place::Text {
+            line: self.line,
+            column: self.column(),
+        }
+    }
+
+    // That the line is lawful up to here, and not with the next byte.
+    pub fn misread(&self) -> Misread
+        ensures { result ≡ record { line = self.now.line; column = self.now.column } }
     {
         Misread {
             line: self.line,
-            column: self.at + 1 + lawful,
+            column: self.column(),
         }
     }
 
@@ -49,7 +59,10 @@ impl<'a> Cursor<'a> {
         let rest = self.rest();
         let same = front(word, rest);
         if same < word.len() {
-            return Err(self.misread(same));
+            return Err(Misread {
+                line: self.line,
+                column: self.column() + same,
+            });
         }
         let token = Token::Word {
             letters: &rest[..same],
@@ -69,7 +82,7 @@ impl<'a> Cursor<'a> {
         let rest = self.rest();
         let digits = &rest[..numeral_at(rest)];
         if digits.is_empty() {
-            return Err(self.misread(0));
+            return Err(self.misread());
         }
         let token = Token::Number {
             digits,
@@ -88,7 +101,7 @@ impl<'a> Cursor<'a> {
         if self.rest().is_empty() {
             Ok(())
         } else {
-            Err(self.misread(0))
+            Err(self.misread())
         }
     }
 }
