@@ -34,20 +34,16 @@ impl<'a> Cursor<'a> {
     pub fn place(&self) -> Place
         ensures { result ≡ spot_place self.now }
     {
-        Place::Text {
-            line: self.line,
-            column: self.column(),
-        }
+        let (line, column) = (self.line, self.column());
+        Place::Text { line, column }
     }
 
     // That the line is lawful up to here, and not with the next byte.
     pub fn misread(&self) -> Misread
         ensures { result ≡ record { line = self.now.line; column = self.now.column } }
     {
-        Misread {
-            line: self.line,
-            column: self.column(),
-        }
+        let (line, column) = (self.line, self.column());
+        Misread { line, column }
     }
 
     // Reads just these bytes. Refused, it tells the first byte that is another, and stays.

@@ -1,5 +1,5 @@
 -- A room line against the house so far.
-use Rattle.std.proofs.Common.{◌≡◌, ℕ, Bool, true, not, ◌&&◌, Some, None, Ok, Err, IsErrAnd, MatchResult, Option, Result, sym, ap, ◌∙◌}
+use Rattle.std.proofs.Common.{◌≡◌, ℕ, Bool, true, not, ◌&&◌, Some, None, Ok, Err, IsErrAnd, MatchResult, Option, Result, sym, ap, ◌∙◌, ◌<◌, [], ◌∷◌, length, arith, length-append}
 use Rattle.std.proofs.lemmas.Result.{err_from_is_err_and}
 use Rattle.std.proofs.lemmas.Bool.{cond-false}
 use Rattle.fault.specs.Numbers.{fault_of, number}
@@ -11,7 +11,7 @@ use Rattle.house.specs.declared.method.Method.{Method}
 use Rattle.house.specs.declared.room.Room.{Room}
 use Rattle.house.specs.Plan.{Plan, answer, settled, with_room, bare, begin_refusal, room_refusal, number_fits, method_fits, house_fault}
 use Rattle.paper.specs.declared.room_line.RoomLine.{RoomLine}
-use Rattle.paper.specs.Reading.{taken, fault_at, placed}
+use Rattle.paper.specs.Reading.{taken, joined, fault_at, placed}
 
 pub said_line : {X : Type 0} (line : ℕ) (x : X) (r : Result X ℕ) → Ok x ≡ on_line line r → r ≡ Ok x
 said_line {X} line x (Ok y) h = ap Ok (sym (same h)) where
@@ -45,3 +45,14 @@ both_true a b p q = ap (λ (v : Bool). v && b) p ∙ q
 -- with its own numbers in their ranges, a house is begun as one with no room takes its first
 pub begun : (n : ℕ) (m : Method) (room : Room) → number_fits n ≡ true → method_fits m ≡ true → begin_refusal n m room ≡ room_refusal (bare n m) room
 begun n m room p q = cond-false _ _ _ (ap not (both_true _ _ p q))
+
+-- a house that has taken a line has a room
+taken_some : (line : ℕ) (plan next : Plan) (r : RoomLine) (o : Option Reason) → Ok next ≡ taken line plan r o → 0 < length next.rooms
+taken_some line plan next r None is =
+    let same : next ≡ with_room plan r.room = cc in
+    omega (arith, ap (λ (p : Plan). length p.rooms) same, length-append plan.rooms (r.room ∷ []))
+taken_some line plan next r (Some reason) is = absurd (ok_is_err is)
+
+pub joined_some : (line : ℕ) (plan next : Plan) (said : Result RoomLine ℕ) → Ok next ≡ joined line plan said → 0 < length next.rooms
+joined_some line plan next (Ok r) is = taken_some line plan next r (room_refusal plan r.room) is
+joined_some line plan next (Err column) is = absurd (ok_is_err is)

@@ -18,11 +18,6 @@ lines_few (b ∷ bs) = at_test (eqb b 10) (lines_few bs) where
   at_test true h = omega arith
   at_test false h = onto_few (lines bs) h
 
-pub rooms_done : (number : ℕ) (house : House) (ls : List (List ℕ)) → ls ≡ [] → Ok (plan_of house) ≡ rooms_read number (plan_of house) ls
-rooms_done number house ls none =
-    let some = some_room (plan_of house).number (plan_of house).method (plan_of house).rooms (house_lawful house) in
-    sym (ap (rooms_read number (plan_of house)) none ∙ cond-false _ _ _ (ne_eqb (length (plan_of house).rooms) 0 (λ e. omega (arith, some))))
-
 -- one call of `next` leaves no more lines than there were
 pub no_more : {A : Type 0} (view : A → List ℕ) (r : Option A) (old new : List (List ℕ)) → MatchOption r ((old ≡ []) × (new ≡ [])) (λ x. old ≡ view x ∷ new) → length new ≤ length old
 no_more view None old new h = omega (arith, ap length h.1)

@@ -11,8 +11,10 @@ use forms::lines::Lines;
 use house::House;
 
 // The house with the rooms of all further lines.
+#[tactic(auto, using(crate::proofs::Judging::joined_some))]
 fn add_rooms(mut house: House, lines: Lines) -> Result<House, Fault>
-    requires { length lines < 2 ^ 63 }
+    requires few { length lines < 2 ^ 63 }
+    requires some { 0 < length (plan_of house).rooms }
     ensures { planned result ≡ rooms_read 3 (plan_of house) lines.entry }
 {
     for (text, line) in lines.zip(3..) {
@@ -21,6 +23,7 @@ fn add_rooms(mut house: House, lines: Lines) -> Result<House, Fault>
     Ok(house)
 }
 
+#[tactic(auto, using(crate::proofs::Judging::joined_some))]
 fn read_lines(paper: &[u8]) -> Result<House, Fault>
     ensures { planned result ≡ reading paper.now }
 {
