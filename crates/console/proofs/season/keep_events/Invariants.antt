@@ -1,4 +1,4 @@
-use Rattle.std.proofs.Common.{◌≡◌, ℕ, List, [], length, string_bytes, Option}
+use Rattle.std.proofs.Common.{◌≡◌, ℕ, List, [], string_bytes, Option}
 use Rattle.std.specs.Io.KnownBytes.{Appends}
 use Rattle.sharing.specs.Remainders.{remainders}
 use Rattle.house.specs.Houses.{plan_of}
