@@ -56,10 +56,6 @@ digits_off (suc k) (b ∷ bs) off = sym (ap (λ (t : Bool). cond t (suc (digits_
 pub differ : (t : Bool) → t ≡ true → t ≡ false → ⊥
 differ t yes-is no-is = let z : ◌≡◌ {A = Bool} true false = sym yes-is ∙ no-is in let w : ◌≡◌ {A = ℕ} 0 1 = cc in omega arith
 
-pub length_tail : (bs : List ℕ) → length (tail bs) ≡ length bs - 1
-length_tail [] = refl
-length_tail (b ∷ bs) = ap length (tail_is b bs) ∙ omega arith
-
 pub common_small : (ws bs : List ℕ) → common ws bs ≤ length ws
 common_small [] bs = omega arith
 common_small (w ∷ ws) [] = omega arith

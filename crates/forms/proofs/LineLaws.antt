@@ -42,10 +42,3 @@ first_line (b ∷ bs) h = first_from b bs (eqb b 10) (first_line bs)
 pub next_line : (text line others : List ℕ) (n : ℕ) → line ≡ take n text → others ≡ drop n text → n ≡ line_length text → eqb (length text) 0 ≡ false → lines text ≡ line ∷ lines others
 next_line text line others n front back is some =
     first_line text (omega (arith, eqb-false (length text) 0 some)) ∙ sym (λ i. (front ∙ ap (λ k. take k text) is) i ∷ lines ((back ∙ ap (λ k. drop k text) is) i))
-
-pub line_some : (bs : List ℕ) → 0 < length bs → 0 < line_length bs
-line_some [] h = absurd (omega arith)
-line_some (b ∷ bs) h = at_test (eqb b 10) where
-  at_test : (t : Bool) → 0 < cond t 1 (suc (line_length bs))
-  at_test true = omega arith
-  at_test false = omega arith

@@ -45,6 +45,7 @@ pub(crate) fn numeral_at(text: &[u8]) -> usize
 }
 
 // The number that the digits write: so few fit.
+#[tactic(auto, using(crate::proofs::Fronts::few_digits, crate::proofs::Fronts::digit_value, std::proofs::lemmas::Int::Digits::digits_value_more))]
 pub(crate) fn value_of(digits: &[u8]) -> u32
     requires few { length digits.now ≤ 9 }
     requires digits { AllDigits 10 digits.now }

@@ -62,6 +62,7 @@ pub fn split_event(events: &[u8]) -> (&[u8], &[u8])
     (unended(line), others)
 }
 
+#[tactic(auto, using(crate::proofs::Scans::unended_body, crate::proofs::Scans::unended_same))]
 fn unended(line: &[u8]) -> &[u8]
     ensures { result.now ≡ unended line.now }
 {
