@@ -1,11 +1,6 @@
 -- A paper line by line.
-use Rattle.std.proofs.Common.{◌≡◌, ℕ, suc, ◌≤◌, Bool, true, false, cond, eqb, List, [], ◌∷◌, length, Some, None, Ok, MatchOption, Option, sym, ap, ◌∙◌, arith}
-use Rattle.std.proofs.lemmas.Bool.{cond-false, ne_eqb}
-use Rattle.house.specs.declared.House.{House}
-use Rattle.house.specs.Houses.{plan_of}
-use Rattle.house.proofs.Laws.{house_lawful, some_room}
+use Rattle.std.proofs.Common.{◌≡◌, ℕ, suc, ◌≤◌, Bool, true, false, cond, eqb, List, [], ◌∷◌, length, Some, None, MatchOption, Option, ap, arith}
 use Rattle.forms.specs.Lines.{onto, lines}
-use Rattle.paper.specs.Reading.{rooms_read}
 
 pub lines_few : (bs : List ℕ) → length (lines bs) ≤ length bs
 lines_few [] = omega arith

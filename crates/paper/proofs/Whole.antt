@@ -112,11 +112,11 @@ module _ (line : ℕ) (text : List ℕ) (s s' : Spot) (is : s ≡ record { line 
           ap (mapped room_with) h
           ∙ kind_says room_with s' (λ kind a pipe. (kind, mark s'.line a, option_map (mark s'.line) pipe))
           ∙ (λ i. line_says (kind_form (λ kind a pipe. record {
-              room = record { number = n.figure.value; area = a.value; kind = kind };
-              number_at = place i;
-              kind_at = Text (there i) s'.column;
-              area_at = Text (there i) a.column;
-              pipe_at = pipe-at pipe i;
-            })) s')
+            room = record { number = n.figure.value; area = a.value; kind = kind };
+            number_at = place i;
+            kind_at = Text (there i) s'.column;
+            area_at = Text (there i) a.column;
+            pipe_at = pipe-at pipe i;
+          })) s')
           ∙ sym (open_on room_word (λ n. at (λ column. kind_form (room_of line n column))) s s' n read left ∙ at_here (λ column. kind_form (room_of line n.figure column)) s')
           ∙ ap (line_says (room_form line)) is

@@ -1,6 +1,5 @@
-use Rattle.std.proofs.Common.{Option, ap, ◌∙◌, sym, rules, Err}
+use Rattle.std.proofs.Common.{ap, ◌∙◌, sym, rules}
 use Rattle.std.proofs.lemmas.Result.{err_from_is_err_and}
-use Rattle.fault.specs.declared.reason.Reason.{Reason}
 use Rattle.house.specs.Houses.{plan_of}
 use Rattle.house.specs.Plan.{bare}
 use Rattle.forms.proofs.Walks.{exit_is}

@@ -1,4 +1,4 @@
-use Rattle.std.proofs.Common.{◌≡◌, ℕ, Ok, sym, ap, ◌∙◌}
+use Rattle.std.proofs.Common.{◌≡◌, sym, ap, ◌∙◌}
 use Rattle.forms.specs.Form.{Form, number}
 use Rattle.forms.specs.Place.{Mark, Spot, mark_of, figure_of, mark, line_says}
 use Rattle.forms.proofs.Walks.{on_word, off_word, on_number, off_number, mark_behind, left_line}

@@ -31,7 +31,7 @@ returns-in_default c =
     let s = c.args.cursor in
     let rest = c.rest.result.now in
     let off : (0 < length rest → get_or rest 0 0 ≡ 114 → ⊥) × (0 < length rest → get_or rest 0 0 ≡ 115 → ⊥) = elim c.in_default.branch [
-      | in_default-via-then-rest-lt1 w ↦ (λ l e. absurd (omega arith), λ l e. absurd (omega arith))
-      | in_default-via-else-rest-lt1+in_default-1 w ↦ (λ l e. absurd (omega (arith, ltb-true, ltb-false)), λ l e. absurd (omega (arith, ltb-true, ltb-false)))
+      | in_default-via-then-rest-lt1 w ↦ (λ l e. absurd (omega (arith, ltb-true, ltb-false)), λ l e. absurd (omega (arith, ltb-true, ltb-false)))
+      | in_default-via-else-rest-lt1+in_default-1 w ↦ (λ l e. absurd (omega arith), λ l e. absurd (omega arith))
     ] in
     ap Err c.misread.ensures ∙ sym (no_method s (leads_not s rest 114 c.rest.ensures off.0) (leads_not s rest 115 c.rest.ensures off.1))
