@@ -1,5 +1,5 @@
 -- What is written so far and what is still to come, and that the front of an input that is too long tells all.
-use Rattle.std.proofs.Common.{◌≡◌, ℕ, ◌<◌, ◌≤◌, List, [], ◌∷◌, ◌++◌, map, length, take, codes, Some, None, Ok, Err, IfSome, OnOk, ◌⊎◌, inl, inr, Option, Result, sym, refl, ap, ◌∙◌, subst, append_assoc, append-nil, arith, length-take}
+use Rattle.std.proofs.Common.{◌≡◌, ℕ, ◌<◌, ◌≤◌, List, [], ◌++◌, length, take, codes, Some, None, Ok, Err, IfSome, OnOk, ◌⊎◌, inl, inr, Option, Result, sym, ap, ◌∙◌, subst, append_assoc, arith, length-take}
 use Rattle.std.proofs.lemmas.List.{take_all}
 use Rattle.std.proofs.lemmas.Bool.{cases_lt, cond-true, lt-ltb}
 use Rattle.std.specs.Io.KnownBytes.{Appends}
@@ -10,22 +10,14 @@ use Rattle.fault.specs.Numbers.{fault_of}
 use Rattle.fault.specs.declared.place.Place.TheVariants.{Nowhere}
 use Rattle.fault.specs.declared.reason.Reason.TheVariants.{InputTooLong}
 use Rattle.fault.specs.declared.refusal.Fault.{Fault}
-use Rattle.sharing.specs.Rule.{Shares}
 use Rattle.sharing.specs.Remainders.{remainders}
 use Rattle.house.specs.Plan.{Plan}
-use Rattle.forms.proofs.LineLaws.{first_line}
-use Rattle.input.specs.Parts.{event_part, first_event, other_events, too_long, unended}
-use Rattle.events.specs.Events.{event_of}
+use Rattle.input.specs.Parts.{event_part, too_long}
 use Rattle.heat_account.specs.State.{State, no_state}
-use Rattle.listing.specs.Performed.{line_printed, line_after}
 use Rattle.console.specs.Opened.{house_in, opening_text}
 use Rattle.console.specs.Season.{event_lines, events_text, kept_text, season_text}
 
-pub appends_nothing : (known : Option (List ℕ)) → Appends known known []
-appends_nothing None = tt
-appends_nothing (Some xs) = sym (append-nil xs)
-
-pub appends_more : (a b c : Option (List ℕ)) (xs ys : List ℕ) → Appends a b xs → Appends b c ys → Appends a c (xs ++ ys)
+appends_more : (a b c : Option (List ℕ)) (xs ys : List ℕ) → Appends a b xs → Appends b c ys → Appends a c (xs ++ ys)
 appends_more None b c xs ys first second = tt
 appends_more (Some old) None c xs ys first second = absurd first
 appends_more (Some old) (Some mid) None xs ys first second = absurd second
@@ -40,23 +32,6 @@ pub front_read : {R : Type 0} (remaining : R → Option (List ℕ)) (limited : T
 front_read {R} remaining limited reader limit old new small inner none read =
     subst (λ (r : R). IfSome (remaining r) (λ bytes. new ≡ take limit bytes)) inner
     (front_by limit old new none (remaining limited.inner) (subst (λ (n : ℕ). IfSome (option_map (take n) (remaining limited.inner)) (λ xs. new ≡ old ++ xs)) small read))
-
--- the first event, and those behind it
-events_on : (shares : Shares) (plan : Plan) (s : State) (events : List ℕ) → 0 < length events → events_text shares plan s (event_lines events) ≡ line_printed shares plan s (event_of (first_event events)) ++ events_text shares plan (line_after shares plan s (event_of (first_event events))) (event_lines (other_events events))
-events_on shares plan s events some = ap (λ ls. events_text shares plan s (map unended ls)) (first_line events some)
-
-module _ (shares : Shares) (plan plan' : Plan) (s s' : State) (events line others : List ℕ) where
-  pub event_kept : (a b c : Option (List ℕ)) → 0 < length events → line ≡ first_event events → others ≡ other_events events → plan' ≡ plan → s' ≡ line_after shares plan s (event_of line) → Appends a b (line_printed shares plan s (event_of line)) → Appends b c (events_text shares plan' s' (event_lines others)) → Appends a c (events_text shares plan s (event_lines events))
-  event_kept a b c some first other same moved written later =
-      let moved-on : s' ≡ line_after shares plan s (event_of (first_event events)) = moved ∙ ap (λ v. line_after shares plan s (event_of v)) first in
-      let parts : line_printed shares plan s (event_of line) ++ events_text shares plan' s' (event_lines others) ≡ events_text shares plan s (event_lines events) =
-      (λ i. line_printed shares plan s (event_of (first i)) ++ events_text shares (same i) (moved-on i) (event_lines (other i))) ∙ sym (events_on shares plan s events some) in
-      subst (Appends a c) parts (appends_more a b c _ _ written later)
-
--- where no event is left, nothing is printed
-pub events_done : (shares : Shares) (plan : Plan) (s : State) (events : List ℕ) → length events ≡ 0 → events_text shares plan s (event_lines events) ≡ []
-events_done shares plan s [] none = refl
-events_done shares plan s (b ∷ bs) none = absurd (omega arith)
 
 -- what stands before the first event, and what the events bring
 pub season_kept : (a b c : Option (List ℕ)) (house : Result Plan Fault) (input : List ℕ) → house ≡ house_in input → Appends a b (opening_text (codes "remainders") house) → Appends b c (kept_text house (event_lines (event_part input))) → Appends a c (season_text input)

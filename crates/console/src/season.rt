@@ -10,7 +10,7 @@ ghost use Rattle.console.specs.Season.{event_lines, events_text, season_text};
 
 use crate::opening::{print_opening, read_input};
 use heat_account::Account;
-use input::{MOST_INPUT, split_event, split_input};
+use input::{EventLines, MOST_INPUT, split_input};
 use listing::performing::perform_line;
 use sharing::remainders::Remainders;
 use sharing::rule::Sharing;
@@ -67,11 +67,8 @@ fn keep_events<W: Write>(
     requires { string_bytes out.old ≡ [] }
     ensures { OnOk result (Appends (W.contents writer.old) (W.contents writer.new) (events_text remainders (plan_of account.old.house) (state_of account.old.tables) (event_lines events.now))) }
 {
-    let mut rest = events;
-    while !rest.is_empty() {
-        let (line, others) = split_event(rest);
+    for line in EventLines::new(events) {
         keep_event(account, line, out, writer)?;
-        rest = others;
     }
     Ok(())
 }

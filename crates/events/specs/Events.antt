@@ -4,7 +4,7 @@ use Rattle.std.specs.Result.{result_ok}
 use Rattle.forms.specs.declared.cursor.Cursor.{Cursor}
 use Rattle.forms.specs.declared.token.Token.{Token}
 use Rattle.forms.specs.Form.{Form, follow, word, number, done, either}
-use Rattle.forms.specs.Place.{spot_of, figure_of}
+use Rattle.forms.specs.Place.{figure_of}
 use Rattle.events.specs.declared.event.Ending.{Ending}
 use Rattle.events.specs.declared.event.Ending.TheVariants.{Book, Withdraw}
 use Rattle.events.specs.declared.event.Event.{Event}
@@ -50,7 +50,7 @@ event_of line = result_ok (follow event_form 1 line)
 
 -- what the line says from the cursor on, or the column at which it no longer follows the form
 abbrev pub said : {X : Type 0} → Form X → Cursor → Result X ℕ
-said f c = follow f (spot_of c).column (spot_of c).rest
+said f c = follow f c.column c.rest
 
 abbrev pub common_of : Option Token → Option ℕ
 common_of (Some t) = Some (figure_of t).value

@@ -18,10 +18,7 @@ pub(crate) fn closing(total: Token, common: Option<Token>) -> Event
 {
     Event::Close {
         total: total.value(),
-        common: match common {
-            Some(figure) => Some(figure.value()),
-            None => None,
-        },
+        common: common.map(|figure| figure.value()),
     }
 }
 

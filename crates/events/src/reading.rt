@@ -1,12 +1,13 @@
 // Reading a line that says an event.
 ghost use Rattle.std.specs.Prelude.{◌≡◌, Ok};
 ghost use Rattle.std.specs.Result.{result_and};
-ghost use Rattle.forms.specs.Place.{spot_of, end_read};
+ghost use Rattle.forms.specs.Place.{on_line, end_read};
 ghost use Rattle.events.specs.Events.{event_of, said, reading_form, closing_form, correction_form, balance_form};
 
 use crate::event::{Ending, Event};
 use crate::items::{closing, correction, reading};
 use forms::cursor::Cursor;
+use forms::misread::Misread;
 
 // The event that a line says, given without its line end, if it has one of the forms.
 pub fn read_event(line: &[u8]) -> Option<Event>
@@ -26,8 +27,8 @@ pub fn read_event(line: &[u8]) -> Option<Event>
     event.ok()
 }
 
-fn read_reading(mut cursor: Cursor) -> Result<Event, usize>
-    ensures { result ≡ said reading_form cursor.entry }
+fn read_reading(mut cursor: Cursor) -> Result<Event, Misread>
+    ensures { result ≡ on_line cursor.entry.line (said reading_form cursor.entry) }
 {
     let room = cursor.number()?;
     cursor.word(b" ")?;
@@ -36,8 +37,8 @@ fn read_reading(mut cursor: Cursor) -> Result<Event, usize>
     at_end(cursor, reading(room, figure))
 }
 
-fn read_closing(mut cursor: Cursor) -> Result<Event, usize>
-    ensures { result ≡ said closing_form cursor.entry }
+fn read_closing(mut cursor: Cursor) -> Result<Event, Misread>
+    ensures { result ≡ on_line cursor.entry.line (said closing_form cursor.entry) }
 {
     let total = cursor.number()?;
     let common = if cursor.word(b" ").is_ok() {
@@ -49,8 +50,8 @@ fn read_closing(mut cursor: Cursor) -> Result<Event, usize>
     at_end(cursor, closing(total, common))
 }
 
-fn read_correction(mut cursor: Cursor) -> Result<Event, usize>
-    ensures { result ≡ said correction_form cursor.entry }
+fn read_correction(mut cursor: Cursor) -> Result<Event, Misread>
+    ensures { result ≡ on_line cursor.entry.line (said correction_form cursor.entry) }
 {
     let room = cursor.number()?;
     cursor.word(b" ")?;
@@ -61,16 +62,16 @@ fn read_correction(mut cursor: Cursor) -> Result<Event, usize>
     at_end(cursor, correction(room, figure, ending))
 }
 
-fn read_balance(mut cursor: Cursor) -> Result<Event, usize>
-    ensures { result ≡ said balance_form cursor.entry }
+fn read_balance(mut cursor: Cursor) -> Result<Event, Misread>
+    ensures { result ≡ on_line cursor.entry.line (said balance_form cursor.entry) }
 {
     cursor.word(b"(balance)")?;
     at_end(cursor, Event::Balance)
 }
 
 // The event, if nothing follows it on its line.
-fn at_end(cursor: Cursor, event: Event) -> Result<Event, usize>
-    ensures { result ≡ result_and (end_read (spot_of cursor.entry)) (Ok event) }
+fn at_end(cursor: Cursor, event: Event) -> Result<Event, Misread>
+    ensures { result ≡ result_and (on_line cursor.entry.line (end_read cursor.entry)) (Ok event) }
 {
     cursor.end().and(Ok(event))
 }

@@ -2,12 +2,13 @@
 use Rattle.std.proofs.Common.{◌≡◌, ℕ, zero, suc, ◌+◌, ◌-◌, ◌<◌, ◌≤◌, Bool, true, false, cond, eqb, List, [], ◌∷◌, length, get_or, take, drop, sym, refl, ap, ◌∙◌, arith}
 use native.Mathlib.Nat.{pow-le-pow_right}
 use Rattle.std.specs.Str.Parse.{AllDigits, digits_value}
+use Rattle.std.specs.List.{prefix_len, zip}
 use Rattle.std.proofs.lemmas.Int.Digits.{digits_value-lt}
 use Rattle.std.proofs.lemmas.Str.Parse.{digit_at}
 use Rattle.std.specs.Char.{is_ascii_digit, digit_value as digitValue}
 use Rattle.std.proofs.lemmas.Bool.Decides.{nat_tests}
 use Rattle.std.proofs.lemmas.List.{take_all, length-take-le}
-use Rattle.std.proofs.lemmas.Bool.{eq-eqb, ne_eqb, eqb-true}
+use Rattle.std.proofs.lemmas.Bool.{ne_eqb, eqb-true}
 use Rattle.forms.specs.Form.{common, digits_at, numeral_at}
 
 by_cond : (t : Bool) (n m : ℕ) → n ≤ m → cond t (suc n) 0 ≤ suc m
@@ -27,13 +28,11 @@ tail bs = take (length bs - 1) (drop 1 bs)
 pub tail_is : (b : ℕ) (bs : List ℕ) → tail (b ∷ bs) ≡ bs
 tail_is b bs = take_all (length (b ∷ bs) - 1) bs (omega arith)
 
-pub common_on : (ws bs : List ℕ) → 0 < length ws → 0 < length bs → get_or ws 0 0 ≡ get_or bs 0 0 → 1 + common (tail ws) (tail bs) ≡ common ws bs
-common_on [] bs lw lb e = absurd (omega arith)
-common_on (w ∷ ws) [] lw lb e = absurd (omega arith)
-common_on (w ∷ ws) (b ∷ bs) lw lb e =
-    let same : common (tail (w ∷ ws)) (tail (b ∷ bs)) ≡ common ws bs = (λ i. common (tail_is w ws i) (tail_is b bs i)) in
-    let here = ap (λ (t : Bool). cond t (suc (common ws bs)) 0) (eq-eqb w b e) in
-    omega (arith, same, here)
+-- as far as the pairs of their bytes are equal
+pub common_prefix : (ws bs : List ℕ) → common ws bs ≡ prefix_len (λ (p : ℕ × ℕ). eqb p.0 p.1) (zip ws bs)
+common_prefix [] bs = refl
+common_prefix (w ∷ ws) [] = refl
+common_prefix (w ∷ ws) (b ∷ bs) = ap (λ n. cond (eqb w b) n 0) (omega (arith, common_prefix ws bs))
 
 pub common_off : (ws bs : List ℕ) → (0 < length ws → 0 < length bs → get_or ws 0 0 ≡ get_or bs 0 0 → ⊥) → 0 ≡ common ws bs
 common_off [] bs off = refl
@@ -56,10 +55,6 @@ digits_off (suc k) (b ∷ bs) off = sym (ap (λ (t : Bool). cond t (suc (digits_
 
 pub differ : (t : Bool) → t ≡ true → t ≡ false → ⊥
 differ t yes-is no-is = let z : ◌≡◌ {A = Bool} true false = sym yes-is ∙ no-is in let w : ◌≡◌ {A = ℕ} 0 1 = cc in omega arith
-
-pub length_tail : (bs : List ℕ) → length (tail bs) ≡ length bs - 1
-length_tail [] = refl
-length_tail (b ∷ bs) = ap length (tail_is b bs) ∙ omega arith
 
 pub common_small : (ws bs : List ℕ) → common ws bs ≤ length ws
 common_small [] bs = omega arith

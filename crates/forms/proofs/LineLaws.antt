@@ -1,25 +1,34 @@
 -- The first line of a text, and the lines behind it.
-use Rattle.std.proofs.Common.{◌≡◌, ℕ, suc, ◌+◌, ◌<◌, ◌≤◌, Bool, true, false, cond, eqb, List, [], ◌∷◌, length, get_or, take, drop, refl, ap, arith}
-use Rattle.std.proofs.lemmas.List.{at_drop_more, at_drop_all}
-use Rattle.std.proofs.lemmas.Bool.{cond-true, cond-false}
+use Rattle.std.proofs.Common.{◌≡◌, ℕ, suc, ◌+◌, ◌<◌, min, Bool, true, false, not, cond, eqb, ltb, List, [], ◌∷◌, length, take, drop, Some, None, Option, sym, refl, ap, ◌∙◌, arith}
+use Rattle.std.proofs.lemmas.Bool.{ltb-true, ltb-false, eqb-false}
+use Rattle.std.specs.List.{position, position_or_len}
 use Rattle.forms.specs.Lines.{onto, lines, line_length}
 
--- the search for the end of the first line
-module _ (bs : List ℕ) (i : ℕ) (inv : i + line_length (drop i bs) ≡ line_length bs) where
-  pub end_here : i < length bs → eqb (get_or bs i 0) 10 ≡ true → i + 1 ≡ line_length bs
-  end_here h e =
-      let step = at_drop_more line_length bs i 0 h in
-      let one : cond (eqb (get_or bs i 0) 10) 1 (suc (line_length (drop (i + 1) bs))) ≡ 1 = cond-true _ _ _ e in
-      omega (arith, step, one, inv)
+abbrev is_end : ℕ → Bool
+is_end b = eqb b 10
 
-  pub end_later : i < length bs → eqb (get_or bs i 0) 10 ≡ false → i + 1 + line_length (drop (i + 1) bs) ≡ line_length bs
-  end_later h e =
-      let step = at_drop_more line_length bs i 0 h in
-      let more : cond (eqb (get_or bs i 0) 10) 1 (suc (line_length (drop (i + 1) bs))) ≡ suc (line_length (drop (i + 1) bs)) = cond-false _ _ _ e in
-      omega (arith, step, more, inv)
+-- the first line ends behind the first byte that ends one, or with the text
+line_by_end : (bs : List ℕ) → line_length bs ≡ min (position_or_len is_end bs + 1) (length bs)
+line_by_end [] = refl
+line_by_end (b ∷ bs) = at_test (eqb b 10) (line_by_end bs) where
+  at_test : (t : Bool) → line_length bs ≡ min (position_or_len is_end bs + 1) (length bs) → cond t 1 (suc (line_length bs)) ≡ min (cond (not t) (1 + position_or_len is_end bs) 0 + 1) (suc (length bs))
+  at_test true on = omega arith
+  at_test false on = omega arith
 
-  pub end_last : length bs ≤ i → i ≡ line_length bs
-  end_last h = let all = at_drop_all line_length bs i h in omega (arith, all, inv)
+module _ (bs : List ℕ) (found : Option ℕ) (is : found ≡ position is_end bs) where
+  at_end : (end : ℕ) (t : Bool) → ltb (position_or_len is_end bs) (length bs) ≡ t → Some end ≡ cond t (Some (position_or_len is_end bs)) None → end + 1 ≡ line_length bs
+  at_end end true e some = let same : end ≡ position_or_len is_end bs = cc in omega (arith, line_by_end bs, ltb-true _ _ e)
+  at_end end false e some = cc
+
+  pub line_to : (end : ℕ) → found ≡ Some end → end + 1 ≡ line_length bs
+  line_to end some = at_end end _ refl (sym some ∙ is)
+
+  at_none : (t : Bool) → ltb (position_or_len is_end bs) (length bs) ≡ t → None ≡ cond t (Some (position_or_len is_end bs)) None → length bs ≡ line_length bs
+  at_none true e none = cc
+  at_none false e none = omega (arith, line_by_end bs, ltb-false _ _ e)
+
+  pub line_all : found ≡ None → length bs ≡ line_length bs
+  line_all none = at_none _ refl (sym none ∙ is)
 
 first_from : (b : ℕ) (bs : List ℕ) (t : Bool) → ((0 < length bs → lines bs ≡ take (line_length bs) bs ∷ lines (drop (line_length bs) bs))) → cond t ((b ∷ []) ∷ lines bs) (onto b (lines bs)) ≡ take (cond t 1 (suc (line_length bs))) (b ∷ bs) ∷ lines (drop (cond t 1 (suc (line_length bs))) (b ∷ bs))
 first_from b bs true h = refl
@@ -30,9 +39,6 @@ pub first_line : (bs : List ℕ) → 0 < length bs → lines bs ≡ take (line_l
 first_line [] h = absurd (omega arith)
 first_line (b ∷ bs) h = first_from b bs (eqb b 10) (first_line bs)
 
-pub line_some : (bs : List ℕ) → 0 < length bs → 0 < line_length bs
-line_some [] h = absurd (omega arith)
-line_some (b ∷ bs) h = at_test (eqb b 10) where
-  at_test : (t : Bool) → 0 < cond t 1 (suc (line_length bs))
-  at_test true = omega arith
-  at_test false = omega arith
+pub next_line : (text line others : List ℕ) (n : ℕ) → line ≡ take n text → others ≡ drop n text → n ≡ line_length text → eqb (length text) 0 ≡ false → lines text ≡ line ∷ lines others
+next_line text line others n front back is some =
+    first_line text (omega (arith, eqb-false (length text) 0 some)) ∙ sym (λ i. (front ∙ ap (λ k. take k text) is) i ∷ lines ((back ∙ ap (λ k. drop k text) is) i))

@@ -1,6 +1,6 @@
 -- What a line may look like, and how far a text follows it.
 use Rattle.std.specs.Prelude.{ℕ, zero, suc, ◌+◌, max, cond, List, [], ◌∷◌, length, take, drop, Ok, Err, Result, ◌==◌, nat_lt, slice_index}
-use Rattle.std.specs.Str.Parse.{digits_value as value}
+use Rattle.std.specs.Str.Parse.{digits_value}
 use Rattle.std.specs.Char.{is_ascii_digit}
 
 -- a number, and the column of its first byte
@@ -42,6 +42,6 @@ best (Err i) (Err j) = Err (max i j)
 unfoldable pub follow : {X : Type 0} → Form X → ℕ → List ℕ → Result X ℕ
 follow (done x) column bs = cond (length bs == 0) (Ok x) (Err column)
 follow (word w f) column bs = cond (nat_lt (common w bs) (length w)) (Err (column + common w bs)) (follow f (column + length w) (drop (length w) bs))
-follow (number f) column bs = cond (numeral_at bs == 0) (Err column) (follow (f (record { value = value 10 (take (numeral_at bs) bs); column = column })) (column + numeral_at bs) (drop (numeral_at bs) bs))
+follow (number f) column bs = cond (numeral_at bs == 0) (Err column) (follow (f (record { value = digits_value 10 (take (numeral_at bs) bs); column = column })) (column + numeral_at bs) (drop (numeral_at bs) bs))
 follow (mark f) column bs = follow (f column) column bs
 follow (either f g) column bs = best (follow f column bs) (follow g column bs)

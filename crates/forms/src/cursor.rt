@@ -1,4 +1,4 @@
-ghost use Rattle.std.specs.Prelude.{◌≤◌, length};
+use std::marker::Model;
 
 // A line that is being read: the text, and how many of its bytes are read already.
 #[derive(Drop)]
@@ -6,5 +6,15 @@ pub struct Cursor<'a> {
     pub(crate) text: &'a [u8],
     pub(crate) at: usize,
     pub(crate) line: usize,
-    ghost within: { at ≤ length text.now },
+}
+
+impl<'a> Model for Cursor<'a> {
+    ghost use Rattle.std.specs.Prelude.{◌+◌, ◌≤◌, length, drop};
+    ghost use Rattle.forms.specs.Place.{Spot};
+
+    ghost Value = { Spot };
+
+    ghost view = { λ c. record { line = c.line; column = c.at + 1; rest = drop c.at c.text.now } };
+
+    ghost invariant = { λ c. c.at ≤ length c.text.now };
 }

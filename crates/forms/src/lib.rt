@@ -3,6 +3,7 @@
 
 pub mod cursor;
 pub mod lines;
+pub mod misread;
 mod reading;
 pub mod token;
 mod walking;

@@ -9,10 +9,7 @@ pub(crate) fn front(word: &[u8], text: &[u8]) -> usize
     ensures small { result ≤ length word.now }
     ensures within { result ≤ length text.now }
 {
-    match (word, text) {
-        ([w, ws @ ..], [b, bs @ ..]) => { if *w == *b { 1 + front(ws, bs) } else { 0 } }
-        _ => 0,
-    }
+    word.iter().zip(text).take_while(|(w, b)| w == b).count()
 }
 
 // How many digits stand at the front, of at most so many.
@@ -22,14 +19,8 @@ fn digits_at(most: usize, text: &[u8]) -> usize
     ensures within { result ≤ length text.now }
 {
     match text {
-        [first, tail @ ..] => {
-            if most > 0 && first.is_ascii_digit() {
-                1 + digits_at(most - 1, tail)
-            } else {
-                0
-            }
-        }
-        [] => 0,
+        [first, tail @ ..] if most > 0 && first.is_ascii_digit() => 1 + digits_at(most - 1, tail),
+        _ => 0,
     }
 }
 
@@ -54,6 +45,7 @@ pub(crate) fn numeral_at(text: &[u8]) -> usize
 }
 
 // The number that the digits write: so few fit.
+#[tactic(auto, using(crate::proofs::Fronts::few_digits, crate::proofs::Fronts::digit_value, std::proofs::lemmas::Int::Digits::digits_value_more))]
 pub(crate) fn value_of(digits: &[u8]) -> u32
     requires few { length digits.now ≤ 9 }
     requires digits { AllDigits 10 digits.now }
@@ -61,7 +53,7 @@ pub(crate) fn value_of(digits: &[u8]) -> u32
 {
     let mut value = 0u32;
     for digit in digits {
-        value = value * 10 + (*digit - b'0') as u32;
+        value = value * 10 + u32::from(*digit - b'0');
     }
     value
 }

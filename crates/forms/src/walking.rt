@@ -1,22 +1,23 @@
 // Reading a line item by item.
-ghost use Rattle.std.specs.Prelude.{◌≡◌, ◌≤◌, length, IfOk};
-ghost use Rattle.std.specs.Str.Parse.{digits_value, AllDigits};
-ghost use Rattle.forms.specs.Place.{Spot, spot_of, seen, spot_place, place_of, bytes_of, word_read, word_left, number_read, number_left, end_read, numeral};
+ghost use Rattle.std.specs.Prelude.{◌≡◌, IfOk};
+ghost use Rattle.forms.specs.Place.{seen, on_line, read_on, bytes_of, spot_place, word_read, word_left, number_read, number_left, end_read, numeral};
 
 use crate::cursor::Cursor;
+use crate::misread::Misread;
 use crate::reading::{front, numeral_at, value_of};
 use crate::token::Token;
+use fault::place::Place;
 
 impl<'a> Cursor<'a> {
     pub fn new(text: &'a [u8], line: usize) -> Cursor<'a>
-        ensures { spot_of result ≡ record { line = line; column = 1; rest = text.now } }
+        ensures { result ≡ record { line = line; column = 1; rest = text.now } }
     {
         Cursor { text, at: 0, line }
     }
 
     // What is left of the line.
     pub fn rest(&self) -> &'a [u8]
-        ensures { result.now ≡ (spot_of self.now).rest }
+        ensures { result.now ≡ self.now.rest }
     {
         let (_, rest) = self.text.split_at(self.at);
         rest
@@ -24,23 +25,43 @@ impl<'a> Cursor<'a> {
 
     // The column of the next byte, or one past the last.
     pub fn column(&self) -> usize
-        ensures { result ≡ (spot_of self.now).column }
+        ensures { result ≡ self.now.column }
     {
         self.at + 1
     }
 
-    // Reads just these bytes. Refused, it tells the column of the first byte that is another, and stays.
-    pub fn word(&mut self, word: &[u8]) -> Result<Token<'a>, usize>
-        ensures value { seen result ≡ word_read (spot_of self.old) word.now }
-        ensures token { IfOk result (λ t. (bytes_of t ≡ word.now) × (place_of t ≡ spot_place (spot_of self.old))) }
-        ensures after { spot_of self.new ≡ word_left (spot_of self.old) word.now }
+    // Where the next byte stands, or would.
+    pub fn place(&self) -> Place
+        ensures { result ≡ spot_place self.now }
     {
-        let same = front(word, self.rest());
+        let (line, column) = (self.line, self.column());
+        Place::Text { line, column }
+    }
+
+    // That the line is lawful up to here, and not with the next byte.
+    pub fn misread(&self) -> Misread
+        ensures { result ≡ record { line = self.now.line; column = self.now.column } }
+    {
+        let (line, column) = (self.line, self.column());
+        Misread { line, column }
+    }
+
+    // Reads just these bytes. Refused, it tells the first byte that is another, and stays.
+    pub fn word(&mut self, word: &[u8]) -> Result<Token<'a>, Misread>
+        ensures value { seen result ≡ read_on self.old.line (word_read self.old word.now) }
+        ensures bytes { IfOk result (λ t. bytes_of t ≡ word.now) }
+        ensures after { self.new ≡ word_left self.old word.now }
+    {
+        let rest = self.rest();
+        let same = front(word, rest);
         if same < word.len() {
-            return Err(self.column() + same);
+            return Err(Misread {
+                line: self.line,
+                column: self.column() + same,
+            });
         }
         let token = Token::Word {
-            letters: &self.rest()[0..same],
+            letters: &rest[..same],
             line: self.line,
             column: self.column(),
         };
@@ -48,17 +69,17 @@ impl<'a> Cursor<'a> {
         Ok(token)
     }
 
-    // Reads a number. Refused, it tells the column, and stays.
-    pub fn number(&mut self) -> Result<Token<'a>, usize>
-        ensures value { seen result ≡ number_read (spot_of self.old) }
-        ensures token { IfOk result (λ t. (bytes_of t ≡ numeral (spot_of self.old).rest) × (place_of t ≡ spot_place (spot_of self.old))) }
-        ensures after { spot_of self.new ≡ number_left (spot_of self.old) }
+    // Reads a number. Refused, it tells where, and stays.
+    pub fn number(&mut self) -> Result<Token<'a>, Misread>
+        ensures value { seen result ≡ read_on self.old.line (number_read self.old) }
+        ensures bytes { IfOk result (λ t. bytes_of t ≡ numeral self.old.rest) }
+        ensures after { self.new ≡ number_left self.old }
     {
-        let digits = numeral_at(self.rest());
-        if digits == 0 {
-            return Err(self.column());
+        let rest = self.rest();
+        let digits = &rest[..numeral_at(rest)];
+        if digits.is_empty() {
+            return Err(self.misread());
         }
-        let digits = &self.rest()[0..digits];
         let token = Token::Number {
             digits,
             value: value_of(digits),
@@ -70,13 +91,13 @@ impl<'a> Cursor<'a> {
     }
 
     // That nothing is left to read.
-    pub fn end(&self) -> Result<(), usize>
-        ensures { result ≡ end_read (spot_of self.now) }
+    pub fn end(&self) -> Result<(), Misread>
+        ensures { result ≡ on_line self.now.line (end_read self.now) }
     {
         if self.rest().is_empty() {
             Ok(())
         } else {
-            Err(self.column())
+            Err(self.misread())
         }
     }
 }

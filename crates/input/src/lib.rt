@@ -1,10 +1,13 @@
 // The program's input: a house paper, an empty line, and events.
 #![tactic(auto)]
 
-ghost use Rattle.std.specs.Prelude.{◌≡◌, ◌≤◌, true, length, drop};
+ghost use Rattle.std.specs.Prelude.{◌≡◌, ◌≤◌, true, length, drop, map};
+ghost use Rattle.std.specs.Iterator.{YieldsFirstRef, item_count};
+ghost use Rattle.forms.specs.Lines.{lines};
 ghost use Rattle.input.specs.Parts.{before_blank, paper_part, event_part, first_event, other_events, unended, too_long};
 
-use forms::lines::{ends_line, line_length};
+use forms::lines::{Lines, ends_line, line_length};
+use std::marker::Model;
 
 // Of an input, in bytes.
 pub const MOST_INPUT: usize = 65_536;
@@ -20,6 +23,7 @@ fn before_blank(input: &[u8]) -> usize
     ensures value { result ≡ before_blank true input.now }
     ensures within { result ≤ length input.now }
 {
+    // Whether a line is empty hangs on the byte before too, which a closure of `position` would have to keep.
     let mut begins = true;
     for (i, byte) in input.iter().enumerate() {
         let ends = ends_line(*byte);
@@ -58,11 +62,49 @@ pub fn split_event(events: &[u8]) -> (&[u8], &[u8])
     (unended(line), others)
 }
 
+#[tactic(auto, using(crate::proofs::Scans::unended_body, crate::proofs::Scans::unended_same))]
 fn unended(line: &[u8]) -> &[u8]
     ensures { result.now ≡ unended line.now }
 {
     match line {
         [body @ .., last] if ends_line(*last) => body,
         _ => line,
+    }
+}
+
+// The event lines that are still to come, each without its end.
+#[derive(Drop)]
+pub struct EventLines<'a> {
+    lines: Lines<'a>,
+}
+
+impl<'a> Model for EventLines<'a> {
+    ghost use Rattle.std.specs.Prelude.{ℕ, List, map};
+    ghost use Rattle.input.specs.Parts.{unended};
+
+    ghost Value = { List (List ℕ) };
+
+    ghost view = { λ e. map unended e.lines };
+}
+
+impl<'a> EventLines<'a> {
+    pub fn new(events: &'a [u8]) -> EventLines<'a>
+        ensures { result ≡ map unended (lines events.now) }
+    {
+        EventLines {
+            lines: Lines::new(events),
+        }
+    }
+}
+
+impl<'a> Iterator for EventLines<'a> {
+    type Item = &'a [u8];
+
+    ghost next_gives = { YieldsFirstRef (λ lines. lines) };
+
+    ghost remaining = { item_count (λ lines. lines) };
+
+    fn next(&mut self) -> Option<&'a [u8]> {
+        self.lines.next().map(unended)
     }
 }

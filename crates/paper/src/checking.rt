@@ -6,7 +6,7 @@ ghost use Rattle.house.specs.Houses.{plan_of};
 ghost use Rattle.house.specs.Plan.{bare, number_fits, method_fits};
 ghost use Rattle.forms.specs.Form.{follow};
 ghost use Rattle.paper.specs.Lines.{house_form, room_form};
-ghost use Rattle.paper.specs.Reading.{malformed, missing, misfit_at, fault_at, headed, bared, joined, planned, placed};
+ghost use Rattle.paper.specs.Reading.{missing, misfit_at, fault_at, headed, bared, joined, planned, placed};
 
 use crate::heading::{Heading, read_heading};
 use crate::room_line::{RoomLine, read_room_line};
@@ -15,12 +15,6 @@ use fault::reason::Reason;
 use fault::refusal::Fault;
 use house::House;
 use house::limits::{area_fits, number_fits};
-
-fn malformed(line: usize, column: usize) -> Fault
-    ensures { result ≡ malformed line column }
-{
-    Fault::new(Reason::MalformedLine, Place::Text { line, column })
-}
 
 // The paper ends before its first room line.
 pub(crate) fn missing(line: usize) -> Fault
@@ -41,17 +35,13 @@ pub(crate) fn check_heading(text: &[u8]) -> Result<Heading, Fault>
     ensures number { IfOk result (λ h. number_fits h.number ≡ true) }
     ensures method { IfOk result (λ h. method_fits h.method ≡ true) }
 {
-    match read_heading(text, 1) {
-        Err(column) => Err(malformed(1, column)),
-        Ok(heading) => {
-            if !number_fits(heading.number) {
-                Err(out_of_range(heading.number_at))
-            } else if !heading.method.fits() {
-                Err(out_of_range(heading.figure_at))
-            } else {
-                Ok(heading)
-            }
-        }
+    let heading = read_heading(text, 1)?;
+    if !number_fits(heading.number) {
+        Err(out_of_range(heading.number_at))
+    } else if !heading.method.fits() {
+        Err(out_of_range(heading.figure_at))
+    } else {
+        Ok(heading)
     }
 }
 
@@ -81,6 +71,13 @@ impl RoomLine {
             _ => self.area_at,
         }
     }
+
+    // The room is refused for this reason.
+    fn refused(&self, line: usize, reason: Reason) -> Fault
+        ensures { result ≡ fault_of reason (fault_at line self.now (number reason)) }
+    {
+        Fault::new(reason, self.fault_at(line, reason))
+    }
 }
 
 // The house with the room of its first room line.
@@ -89,27 +86,20 @@ pub(crate) fn begin_house(heading: Heading, text: &[u8], line: usize) -> Result<
     requires method { method_fits heading.method ≡ true }
     ensures { planned result ≡ joined line (bare heading.number heading.method) (follow (room_form line) 1 text.now) }
 {
-    match read_room_line(text, line) {
-        Err(column) => Err(malformed(line, column)),
-        Ok(said) => {
-            let mut house = House::new();
-            match house.begin(heading.number, heading.method, said.room) {
-                Ok(()) => Ok(house),
-                Err(fault) => Err(Fault::new(fault.reason, said.fault_at(line, fault.reason))),
-            }
-        }
-    }
+    let said = read_room_line(text, line)?;
+    let mut house = House::new();
+    house
+        .begin(heading.number, heading.method, said.room)
+        .map_err(|fault| said.refused(line, fault.reason))?;
+    Ok(house)
 }
 
 // Adds the room of a further line.
 pub(crate) fn add_room(house: &mut House, text: &[u8], line: usize) -> Result<(), Fault>
     ensures { placed result (plan_of house.new) ≡ joined line (plan_of house.old) (follow (room_form line) 1 text.now) }
 {
-    match read_room_line(text, line) {
-        Err(column) => Err(malformed(line, column)),
-        Ok(said) => match house.add(said.room) {
-            Ok(()) => Ok(()),
-            Err(fault) => Err(Fault::new(fault.reason, said.fault_at(line, fault.reason))),
-        },
-    }
+    let said = read_room_line(text, line)?;
+    house
+        .add(said.room)
+        .map_err(|fault| said.refused(line, fault.reason))
 }

@@ -1,14 +1,14 @@
 // The first line of a paper.
-ghost use Rattle.std.specs.Prelude.{◌≡◌, IfOk};
-ghost use Rattle.fault.specs.declared.place.Place.TheVariants.{Text};
+ghost use Rattle.std.specs.Prelude.{◌≡◌};
 ghost use Rattle.forms.specs.Form.{follow};
-ghost use Rattle.forms.specs.Place.{spot_of, place_of, figure_of};
+ghost use Rattle.forms.specs.Place.{on_line, mark, line_says};
 ghost use Rattle.paper.specs.Items.{method_seen};
 ghost use Rattle.paper.specs.Lines.{house_form, method_form};
 
 use crate::figures::{open_line, read_figure};
 use fault::place::Place;
 use forms::cursor::Cursor;
+use forms::misread::Misread;
 use forms::token::Token;
 use house::method::Method;
 
@@ -22,28 +22,27 @@ pub(crate) struct Heading {
 }
 
 // The method, and the figure that it was read with.
-fn read_method<'a>(cursor: Cursor<'a>) -> Result<(Method, Token<'a>), usize>
-    ensures value { method_seen result ≡ follow (method_form (λ m x. (m, x))) (spot_of cursor.entry).column (spot_of cursor.entry).rest }
-    ensures place { IfOk result (λ p. place_of p.1 ≡ Text (spot_of cursor.entry).line (figure_of p.1).column) }
+fn read_method<'a>(cursor: Cursor<'a>) -> Result<(Method, Token<'a>), Misread>
+    ensures { method_seen result ≡ line_says (method_form (λ m x. (m, mark cursor.entry.line x))) cursor.entry }
 {
     match cursor.rest() {
         [b'r', ..] => {
-            let area = read_figure(cursor, b"remainder ")?.figure;
+            let area = read_figure(cursor, b"remainder ")?;
             let common_area = area.value();
             Ok((Method::Remainder { common_area }, area))
         }
         [b's', ..] => {
-            let percent = read_figure(cursor, b"stated ")?.figure;
+            let percent = read_figure(cursor, b"stated ")?;
             let floor_percent = percent.value();
             Ok((Method::Stated { floor_percent }, percent))
         }
-        _ => Err(cursor.column()),
+        _ => Err(cursor.misread()),
     }
 }
 
-// Refused, it tells the column from which the line has no lawful form.
-pub(crate) fn read_heading(text: &[u8], line: usize) -> Result<Heading, usize>
-    ensures { result ≡ follow (house_form line) 1 text.now }
+// Refused, it tells from where the line has no lawful form.
+pub(crate) fn read_heading(text: &[u8], line: usize) -> Result<Heading, Misread>
+    ensures { result ≡ on_line line (follow (house_form line) 1 text.now) }
 {
     let mut cursor = Cursor::new(text, line);
     let number = open_line(&mut cursor, b"(house ")?;

@@ -4,7 +4,6 @@
 mod checking;
 mod figures;
 mod heading;
-mod item;
 pub mod reading;
 mod room_line;
 #[cfg(test)]

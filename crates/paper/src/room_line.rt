@@ -1,15 +1,15 @@
 // A line of a paper that brings a room.
-ghost use Rattle.std.specs.Prelude.{◌≡◌, IfOk};
-ghost use Rattle.fault.specs.declared.place.Place.TheVariants.{Text};
+ghost use Rattle.std.specs.Prelude.{◌≡◌};
 ghost use Rattle.forms.specs.Form.{follow};
-ghost use Rattle.forms.specs.Place.{spot_of, spot_place, place_of, figure_of};
-ghost use Rattle.paper.specs.Items.{described_seen, figure_in, place_in};
-ghost use Rattle.paper.specs.Lines.{room_form, kind_form, stands};
+ghost use Rattle.forms.specs.Place.{on_line, mark, line_says};
+ghost use Rattle.std.specs.Option.{option_map};
+ghost use Rattle.paper.specs.Items.{described_seen, place_in};
+ghost use Rattle.paper.specs.Lines.{room_form, kind_form};
 
 use crate::figures::{open_line, read_detached, read_figure};
-use crate::item::Described;
 use fault::place::Place;
 use forms::cursor::Cursor;
+use forms::misread::Misread;
 use forms::token::Token;
 use house::room::{Kind, Room};
 
@@ -23,59 +23,59 @@ pub(crate) struct RoomLine {
     pub(crate) pipe_at: Place,
 }
 
-fn read_kind<'a>(cursor: Cursor<'a>) -> Result<Described<'a>, usize>
-    ensures value { described_seen result ≡ follow (kind_form (λ kind s pipe. (kind, s, pipe))) (spot_of cursor.entry).column (spot_of cursor.entry).rest }
-    ensures word { IfOk result (λ d. place_of d.word ≡ spot_place (spot_of cursor.entry)) }
-    ensures area { IfOk result (λ d. place_of d.area ≡ Text (spot_of cursor.entry).line (figure_of d.area).column) }
-    ensures pipe { IfOk result (λ d. place_in d.pipe ≡ stands (spot_of cursor.entry).line (figure_in d.pipe)) }
+// What the line says of its room beside the number.
+#[derive(Clone, Copy)]
+pub(crate) struct Described<'a> {
+    pub(crate) kind: Kind,
+    pub(crate) area: Token<'a>,
+    pub(crate) pipe: Option<Token<'a>>,
+}
+
+fn read_kind<'a>(cursor: Cursor<'a>) -> Result<Described<'a>, Misread>
+    ensures { let at = mark cursor.entry.line in described_seen result ≡ line_says (kind_form (λ kind s pipe. (kind, at s, option_map at pipe))) cursor.entry }
 {
     match cursor.rest() {
         [b'm', ..] => {
-            let item = read_figure(cursor, b"metered ")?;
+            let area = read_figure(cursor, b"metered ")?;
             Ok(Described {
-                word: item.word,
                 kind: Kind::Metered,
-                area: item.figure,
+                area,
                 pipe: None,
             })
         }
         [b'p', ..] => {
-            let item = read_figure(cursor, b"plain ")?;
+            let area = read_figure(cursor, b"plain ")?;
             Ok(Described {
-                word: item.word,
                 kind: Kind::Plain,
-                area: item.figure,
+                area,
                 pipe: None,
             })
         }
         [b'd', ..] => {
-            let (item, pipe) = read_detached(cursor)?;
+            let (area, pipe) = read_detached(cursor)?;
             Ok(Described {
-                word: item.word,
                 kind: Kind::Detached { pipe: pipe.value() },
-                area: item.figure,
+                area,
                 pipe: Some(pipe),
             })
         }
-        _ => Err(cursor.column()),
+        _ => Err(cursor.misread()),
     }
 }
 
 fn place_of(figure: Option<Token>) -> Place
     ensures { result ≡ place_in figure.entry }
 {
-    match figure {
-        Some(token) => token.place(),
-        None => Place::Nowhere,
-    }
+    figure.map_or(Place::Nowhere, |token| token.place())
 }
 
-// Refused, it tells the column from which the line has no lawful form.
-pub(crate) fn read_room_line(text: &[u8], line: usize) -> Result<RoomLine, usize>
-    ensures { result ≡ follow (room_form line) 1 text.now }
+// Refused, it tells from where the line has no lawful form.
+pub(crate) fn read_room_line(text: &[u8], line: usize) -> Result<RoomLine, Misread>
+    ensures { result ≡ on_line line (follow (room_form line) 1 text.now) }
 {
     let mut cursor = Cursor::new(text, line);
     let number = open_line(&mut cursor, b"(room ")?;
+    let kind_at = cursor.place();
     let said = read_kind(cursor)?;
     Ok(RoomLine {
         room: Room {
@@ -84,7 +84,7 @@ pub(crate) fn read_room_line(text: &[u8], line: usize) -> Result<RoomLine, usize
             kind: said.kind,
         },
         number_at: number.place(),
-        kind_at: said.word.place(),
+        kind_at,
         area_at: said.area.place(),
         pipe_at: place_of(said.pipe),
     })

@@ -1,4 +1,4 @@
-use Rattle.std.proofs.Common.{◌≡◌, ℕ, List, [], length, string_bytes, Option}
+use Rattle.std.proofs.Common.{◌≡◌, ℕ, List, [], string_bytes, Option}
 use Rattle.std.specs.Io.KnownBytes.{Appends}
 use Rattle.sharing.specs.Remainders.{remainders}
 use Rattle.house.specs.Houses.{plan_of}
@@ -7,11 +7,8 @@ use Rattle.console.specs.Season.{event_lines, events_text}
 use Rattle.console.proofs.season.keep_events.Given as goal
 
 -- what the events that are left bring, in whatever writing it ends, completes what all of them bring
-abbrev pub invariant-loop-rest : goal.invariant-loop-rest
-invariant-loop-rest g l = record {
+abbrev pub invariant-loop-line : goal.invariant-loop-line
+invariant-loop-line g l = record {
   emptied : string_bytes l.out ≡ [];
-  written : (last : Option (List ℕ)) → Appends (g.W.Write.contents l.writer) last (events_text remainders (plan_of l.account.house) (state_of l.account.tables) (event_lines l.rest)) → Appends (g.W.Write.contents l.initial.writer) last (events_text remainders (plan_of l.initial.account.house) (state_of l.initial.account.tables) (event_lines l.events));
+  written : (last : Option (List ℕ)) → Appends (g.W.Write.contents l.writer) last (events_text remainders (plan_of l.account.house) (state_of l.account.tables) l.line-iterator) → Appends (g.W.Write.contents l.initial.writer) last (events_text remainders (plan_of l.initial.account.house) (state_of l.initial.account.tables) (event_lines l.events));
 }
-
-abbrev pub decreases-loop-rest : goal.decreases-loop-rest
-decreases-loop-rest g l = length l.rest

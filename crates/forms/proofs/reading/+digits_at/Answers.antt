@@ -1,25 +1,15 @@
-use Rattle.std.proofs.Common.{◌+◌, sym, ap, ◌∙◌, arith, ltb-false, ltb-true}
-use Rattle.forms.proofs.Fronts.{digits_on, digits_off, differ, length_tail}
+use Rattle.std.proofs.Common.{◌+◌, sym, ap, ◌∙◌, arith}
+use Rattle.forms.proofs.Fronts.{digits_on, digits_off, differ}
 use Rattle.forms.proofs.reading.+digits_at.Goals as goal
-use Rattle.forms.proofs.reading.+digits_at.Goals.{else-most-gt0-via-then-most-gt0+else-is_ascii_digit, else-most-gt0-via-else-most-gt0}
 
-pub returns-in-empty : goal.returns-in-empty
-returns-in-empty t c = record { value = digits_off c.args.most c.args.text.now (λ a b e. absurd (omega (arith, ltb-true, ltb-false))); few = omega arith; within = omega arith }
+pub returns-in-len1-up-clause-value : goal.returns-in-len1-up-clause-value
+returns-in-len1-up-clause-value t c = ap (λ n. 1 + n) c.digits_at.ensures.value ∙ digits_on c.args.most c.args.text.now c.if-most-gt0.true c.in-len1-up.len_at_least (sym c.is_ascii_digit.ensures.value ∙ c.if-is_ascii_digit.true)
 
-pub returns-then-is_ascii_digit : goal.returns-then-is_ascii_digit
-returns-then-is_ascii_digit t c = record {
-  value = ap (λ n. 1 + n) c.digits_at.ensures.value ∙ digits_on c.args.most c.args.text.now c.if-most-gt0.true (omega (arith, ltb-true, ltb-false)) (sym c.is_ascii_digit.ensures.value ∙ c.if-is_ascii_digit.true);
-  few = omega (arith, c.digits_at.ensures.few, c.if-most-gt0.true);
-  within = omega (arith, c.digits_at.ensures.within, ltb-true, ltb-false, length_tail c.args.text.now);
-}
+pub returns-in_default-clause-value : goal.returns-in_default-clause-value
+returns-in_default-clause-value t c = digits_off c.args.most c.args.text.now (λ a b e. absurd (omega arith))
 
-pub returns-else-most-gt0 : goal.returns-else-most-gt0
-returns-else-most-gt0 t c =
-    record {
-      value = elim c.else-most-gt0.branch [
-        | else-most-gt0-via-then-most-gt0+else-is_ascii_digit w ↦ digits_off c.args.most c.args.text.now (λ a b e. differ _ e (sym w.is_ascii_digit.ensures.value ∙ w.if-is_ascii_digit.false))
-        | else-most-gt0-via-else-most-gt0 w ↦ digits_off c.args.most c.args.text.now (λ a b e. absurd (omega (arith, w.if-most-gt0.false)))
-      ];
-      few = omega arith;
-      within = omega arith;
-    }
+pub returns-in_default-2-clause-value : goal.returns-in_default-2-clause-value
+returns-in_default-2-clause-value t c = digits_off c.args.most c.args.text.now (λ a b e. differ _ e (sym c.is_ascii_digit.ensures.value ∙ c.if-is_ascii_digit.false))
+
+pub returns-in_default-3-clause-value : goal.returns-in_default-3-clause-value
+returns-in_default-3-clause-value t c = digits_off c.args.most c.args.text.now (λ a b e. absurd (omega arith))

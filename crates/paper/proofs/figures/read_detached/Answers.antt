@@ -1,59 +1,40 @@
-use Rattle.std.proofs.Common.{sym, ◌∙◌}
-use Rattle.std.proofs.lemmas.Result.{err_from_is_err_and}
-use Rattle.forms.specs.Form.{Figure}
-use Rattle.forms.specs.Place.{spot_of}
-use Rattle.paper_text.specs.Text.{detached_word}
-use Rattle.paper.proofs.Tails.{made_exit, pair_exit, figure_stands, detached_word_off, detached_area_off, detached_then, same_line}
+use Rattle.std.proofs.Common.{◌≡◌, sym, ap, ◌∙◌}
+use Rattle.forms.specs.Form.{Form, number}
+use Rattle.forms.specs.Place.{Mark, Spot, mark_of, figure_of, mark, line_says}
+use Rattle.forms.proofs.Walks.{on_word, off_word, on_number, off_number, mark_behind, left_line}
+use Rattle.paper_text.specs.Text.{detached_word, blank}
+use Rattle.paper.specs.Items.{mapped}
+use Rattle.paper.specs.Lines.{figure_form, detached_form}
+use Rattle.paper.proofs.Tails.{mapped_exit, figure_says}
 use Rattle.paper.proofs.figures.read_detached.Goals as goal
+use Rattle.paper.proofs.figures.read_detached.Goals.{In_ok-word, In_ok-area}
 
-nothing : Figure
-nothing = record { value = 0; column = 0 }
+abbrev form : Spot → Form (Mark × Mark)
+form s = detached_form (λ a t. (mark s.line a, mark s.line t))
+
+behind_word : (c : In_ok-word) → line_says (form c.args.cursor) c.args.cursor ≡ line_says (number (λ a. figure_form blank (λ t. (mark c.args.cursor.line a, mark c.args.cursor.line t)))) c.word.new.self
+behind_word c = on_word _ _ c.args.cursor c.word.new.self _ c.in_ok-word.ensures.value c.word.ensures.after
+
+behind_area : (c : In_ok-area) → line_says (form c.args.cursor) c.args.cursor ≡ mapped {Y = Mark × Mark} (λ t. (mark_of c.in_ok-area.area, t)) (line_says (figure_form blank (mark c.number.new.self.line)) c.number.new.self)
+behind_area c =
+    let s = c.args.cursor in
+    let there : s.line ≡ c.number.new.self.line = sym (ap (λ (v : Spot). v.line) c.number.ensures.after ∙ ap (λ (v : Spot). v.line) c.word.ensures.after ∙ left_line s detached_word) in
+    let area : mark s.line (figure_of c.in_ok-area.area) ≡ mark_of c.in_ok-area.area = sym (mark_behind detached_word s c.word.new.self _ c.word.ensures.after c.in_ok-area.ensures.value) in
+    behind_word (goal.at.In_ok-area c).In_ok-word
+    ∙ on_number _ c.word.new.self c.number.new.self _ c.in_ok-area.ensures.value c.number.ensures.after
+    ∙ (λ i. line_says (figure_form blank (λ t. (area i, mark (there i) t))) c.number.new.self)
+    ∙ sym (figure_says _ c.number.new.self (mark c.number.new.self.line) blank)
 
 pub returns-in_err-word : goal.returns-in_err-word
-returns-in_err-word c =
-    let p = err_from_is_err_and c.from_residual.result c.from_residual.ensures.1 in
-    let s = spot_of c.args.cursor in
-    record {
-      value = pair_exit _ _ p ∙ sym (detached_word_off s s s nothing nothing _ c.in_err-word.ensures.value);
-      word = made_exit _ _ _ p.1;
-      area = made_exit _ _ _ p.1;
-      pipe = made_exit _ _ _ p.1;
-    }
+returns-in_err-word c = mapped_exit _ _ _ c.from_residual.ensures.1 ∙ sym (off_word _ _ c.args.cursor _ c.in_err-word.ensures.value)
 
 pub returns-in_err-area : goal.returns-in_err-area
 returns-in_err-area c =
-    let p = err_from_is_err_and c.from_residual-in_err-area.result c.from_residual-in_err-area.ensures.1 in
-    let w = c.in_ok-word.ensures in
-    let s = spot_of c.args.cursor in
-    record {
-      value = pair_exit _ _ p ∙ sym (detached_area_off s (spot_of c.word.new.self) s _ nothing w.value w.after _ c.in_err-area.ensures.value);
-      word = made_exit _ _ _ p.1;
-      area = made_exit _ _ _ p.1;
-      pipe = made_exit _ _ _ p.1;
-    }
+    mapped_exit _ _ _ c.from_residual-in_err-area.ensures.1 ∙ sym (behind_word (goal.at.returns-in_err-area c).In_ok-word ∙ off_number _ c.word.new.self _ c.in_err-area.ensures.value)
 
 pub returns-in_err-pipe : goal.returns-in_err-pipe
 returns-in_err-pipe c =
-    let p = err_from_is_err_and c.from_residual-in_err-pipe.result c.from_residual-in_err-pipe.ensures.1 in
-    let w = c.in_ok-word.ensures in
-    let n = c.in_ok-area.ensures in
-    record {
-      value = pair_exit _ _ p ∙ sym (detached_then (spot_of c.args.cursor) (spot_of c.word.new.self) (spot_of c.number.new.self) _ _ w.value w.after n.value n.after _ c.in_err-pipe.ensures.value);
-      word = made_exit _ _ _ p.1;
-      area = made_exit _ _ _ p.1;
-      pipe = made_exit _ _ _ p.1;
-    }
+    mapped_exit _ _ _ c.from_residual-in_err-pipe.ensures.1 ∙ sym (behind_area (goal.at.returns-in_err-pipe c).In_ok-area ∙ sym (ap (mapped _) c.in_err-pipe.ensures))
 
 pub returns : goal.returns
-returns c =
-    let w = c.in_ok-word.ensures in
-    let n = c.in_ok-area.ensures in
-    let q = c.in_ok-pipe.ensures in
-    let s = spot_of c.args.cursor in
-    let s1 = spot_of c.word.new.self in
-    record {
-      value = sym (detached_then s s1 (spot_of c.number.new.self) _ _ w.value w.after n.value n.after _ q.value);
-      word = w.token.1;
-      area = n.token.1 ∙ figure_stands detached_word s s1 _ w.after n.value;
-      pipe = q.figure ∙ same_line s s1 (spot_of c.number.new.self) detached_word _ w.after n.after;
-    }
+returns c = sym (behind_area (goal.at.returns c).In_ok-area ∙ sym (ap (mapped _) c.in_ok-pipe.ensures))

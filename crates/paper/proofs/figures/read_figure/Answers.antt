@@ -1,64 +1,43 @@
-use Rattle.std.proofs.Common.{sym, ◌∙◌}
-use Rattle.std.proofs.lemmas.Result.{err_from_is_err_and}
-use Rattle.forms.specs.Place.{spot_of}
-use Rattle.forms.proofs.Walks.{no_word}
-use Rattle.paper.proofs.Tails.{made_exit, item_exit, figure_number, figure_closing, figure_end, figure_whole, figure_stands}
+use Rattle.std.proofs.Common.{◌≡◌, ℕ, List, Ok, sym, ap, ◌∙◌}
+use Rattle.forms.specs.Form.{Form, word, number, done}
+use Rattle.forms.specs.Place.{Mark, Spot, figure_of, mark, line_says}
+use Rattle.forms.proofs.Walks.{on_word, off_word, on_number, off_number, on_end, off_end, mark_behind}
+use Rattle.paper_text.specs.Text.{closing}
+use Rattle.paper.specs.Lines.{figure_form}
+use Rattle.paper.proofs.Tails.{seen_exit}
 use Rattle.paper.proofs.figures.read_figure.Goals as goal
+use Rattle.paper.proofs.figures.read_figure.Goals.{In_ok-word, In_ok-figure, In_ok-word-2}
+
+abbrev form : List ℕ → Spot → Form Mark
+form w s = figure_form w (mark s.line)
+
+behind_word : (c : In_ok-word) → line_says (form c.args.word.now c.args.cursor) c.args.cursor ≡ line_says (number (λ x. word closing (done (mark c.args.cursor.line x)))) c.word.new.self
+behind_word c = on_word _ _ c.args.cursor c.word.new.self _ c.in_ok-word.ensures.value c.word.ensures.after
+
+behind_figure : (c : In_ok-figure) → line_says (form c.args.word.now c.args.cursor) c.args.cursor ≡ line_says (word closing (done (mark c.args.cursor.line (figure_of c.in_ok-figure.figure)))) c.number.new.self
+behind_figure c =
+    behind_word (goal.at.In_ok-figure c).In_ok-word ∙ on_number _ c.word.new.self c.number.new.self _ c.in_ok-figure.ensures.value c.number.ensures.after
+
+behind_closing : (c : In_ok-word-2) → line_says (form c.args.word.now c.args.cursor) c.args.cursor ≡ line_says (done (mark c.args.cursor.line (figure_of c.in_ok-figure.figure))) c.word-2.new.self
+behind_closing c =
+    behind_figure (goal.at.In_ok-word-2 c).In_ok-figure ∙ on_word _ _ c.number.new.self c.word-2.new.self _ c.in_ok-word-2.ensures.value c.word-2.ensures.after
 
 pub returns-in_err-word : goal.returns-in_err-word
-returns-in_err-word c =
-    let p = err_from_is_err_and c.from_residual.result c.from_residual.ensures.1 in
-    record {
-      value = item_exit _ _ p ∙ sym (no_word c.args.word.now _ (spot_of c.args.cursor) _ c.in_err-word.ensures.value);
-      word = made_exit _ _ _ p.1;
-      figure = made_exit _ _ _ p.1;
-    }
+returns-in_err-word c = seen_exit _ _ c.from_residual.ensures.1 ∙ sym (off_word _ _ c.args.cursor _ c.in_err-word.ensures.value)
 
 pub returns-in_err-figure : goal.returns-in_err-figure
 returns-in_err-figure c =
-    let p = err_from_is_err_and c.from_residual-in_err-figure.result c.from_residual-in_err-figure.ensures.1 in
-    let w = c.in_ok-word.ensures in
-    let s = spot_of c.args.cursor in
-    let s1 = spot_of c.word.new.self in
-    record {
-      value = item_exit _ _ p ∙ sym (figure_number c.args.word.now s s1 s s _ (record { value = 0; column = 0 }) (record { value = 0; column = 0 }) w.value w.after _ c.in_err-figure.ensures.value);
-      word = made_exit _ _ _ p.1;
-      figure = made_exit _ _ _ p.1;
-    }
+    seen_exit _ _ c.from_residual-in_err-figure.ensures.1 ∙ sym (behind_word (goal.at.returns-in_err-figure c).In_ok-word ∙ off_number _ c.word.new.self _ c.in_err-figure.ensures.value)
 
 pub returns-in_err-word-2 : goal.returns-in_err-word-2
 returns-in_err-word-2 c =
-    let p = err_from_is_err_and c.from_residual-in_err-word-2.result c.from_residual-in_err-word-2.ensures.1 in
-    let w = c.in_ok-word.ensures in
-    let n = c.in_ok-figure.ensures in
-    let s = spot_of c.args.cursor in
-    let s1 = spot_of c.word.new.self in
-    let s2 = spot_of c.number.new.self in
-    record {
-      value = item_exit _ _ p ∙ sym (figure_closing c.args.word.now s s1 s2 s _ _ (record { value = 0; column = 0 }) w.value w.after n.value n.after _ c.in_err-word-2.ensures.value);
-      word = made_exit _ _ _ p.1;
-      figure = made_exit _ _ _ p.1;
-    }
+    seen_exit _ _ c.from_residual-in_err-word-2.ensures.1 ∙ sym (behind_figure (goal.at.returns-in_err-word-2 c).In_ok-figure ∙ off_word _ _ c.number.new.self _ c.in_err-word-2.ensures.value)
 
 pub returns-in_err-end : goal.returns-in_err-end
 returns-in_err-end c =
-    let p = err_from_is_err_and c.from_residual-in_err-end.result c.from_residual-in_err-end.ensures.1 in
-    let w = c.in_ok-word.ensures in
-    let n = c.in_ok-figure.ensures in
-    let v = c.in_ok-word-2.ensures in
-    record {
-      value = item_exit _ _ p ∙ sym (figure_end c.args.word.now (spot_of c.args.cursor) (spot_of c.word.new.self) (spot_of c.number.new.self) (spot_of c.word-2.new.self) _ _ _ w.value w.after n.value n.after v.value v.after _ c.in_err-end.ensures);
-      word = made_exit _ _ _ p.1;
-      figure = made_exit _ _ _ p.1;
-    }
+    seen_exit _ _ c.from_residual-in_err-end.ensures.1 ∙ sym (behind_closing (goal.at.returns-in_err-end c).In_ok-word-2 ∙ off_end _ c.word-2.new.self _ c.in_err-end.ensures)
 
 pub returns : goal.returns
 returns c =
-    let w = c.in_ok-word.ensures in
-    let n = c.in_ok-figure.ensures in
-    let v = c.in_ok-word-2.ensures in
-    record {
-      value = sym (figure_whole c.args.word.now (spot_of c.args.cursor) (spot_of c.word.new.self) (spot_of c.number.new.self) (spot_of c.word-2.new.self) _ _ _ w.value w.after n.value n.after v.value v.after c.in_ok-end.ensures);
-      word = w.token.1;
-      figure = n.token.1 ∙ figure_stands c.args.word.now (spot_of c.args.cursor) (spot_of c.word.new.self) _ w.after n.value;
-    }
+    ap Ok (mark_behind c.args.word.now c.args.cursor c.word.new.self _ c.word.ensures.after c.in_ok-figure.ensures.value)
+    ∙ sym (behind_closing (goal.at.returns c).In_ok-word-2 ∙ on_end _ c.word-2.new.self c.in_ok-end.ensures)
