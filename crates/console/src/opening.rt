@@ -1,5 +1,4 @@
 ghost use Rattle.std.specs.Prelude.{◌≡◌, ◌++◌, string_bytes, OnOk};
-ghost use Rattle.paper.specs.Reading.{planned};
 ghost use Rattle.console.specs.Opened.{house_in, opening_text};
 
 use fault::place::Place;
@@ -13,7 +12,7 @@ use std::alloc::AllocError;
 
 // The house of an input, or the first fault.
 pub fn read_input(input: &[u8]) -> Result<House, Fault>
-    ensures { planned result ≡ house_in input.now }
+    ensures { result ≡ house_in input.now }
 {
     if is_too_long(input) {
         return Err(Fault::new(Reason::InputTooLong, Place::Nowhere));
@@ -28,7 +27,7 @@ pub fn print_opening(
     title: &str,
     out: &mut String,
 ) -> Result<(), AllocError>
-    ensures { OnOk result (string_bytes out.new ≡ string_bytes out.old ++ opening_text title.now (planned house.now)) }
+    ensures { OnOk result (string_bytes out.new ≡ string_bytes out.old ++ opening_text title.now house.now) }
 {
     match house {
         Ok(_) => print_rule(out, title),

@@ -2,9 +2,8 @@
 ghost use Rattle.std.specs.Prelude.{◌≡◌, [], take, string_bytes, IfOk, IfSome, OnOk};
 ghost use Rattle.std.specs.Io.KnownBytes.{Appends};
 ghost use Rattle.sharing.specs.Remainders.{remainders};
-ghost use Rattle.house.specs.Houses.{plan_of};
 ghost use Rattle.events.specs.Events.{event_of};
-ghost use Rattle.heat_account.specs.Tables.{state_of};
+ghost use Rattle.heat_account.specs.State.{with_state};
 ghost use Rattle.listing.specs.Performed.{line_after, line_printed};
 ghost use Rattle.console.specs.Season.{event_lines, events_text, season_text};
 
@@ -48,9 +47,8 @@ fn keep_event<W: Write>(
     writer: &mut W,
 ) -> io::Result<()>
     requires { string_bytes out.old ≡ [] }
-    ensures written { OnOk result (Appends (W.contents writer.old) (W.contents writer.new) (line_printed remainders (plan_of account.old.house) (state_of account.old.tables) (event_of line.now))) }
-    ensures after { state_of account.new.tables ≡ line_after remainders (plan_of account.old.house) (state_of account.old.tables) (event_of line.now) }
-    ensures house { account.new.house ≡ account.old.house }
+    ensures written { OnOk result (Appends (W.contents writer.old) (W.contents writer.new) (line_printed remainders account.old.house account.old.state (event_of line.now))) }
+    ensures after { account.new ≡ with_state account.old (line_after remainders account.old.house account.old.state (event_of line.now)) }
     ensures emptied { OnOk result (string_bytes out.new ≡ []) }
 {
     perform_line(account, line, out)?;
@@ -65,7 +63,7 @@ fn keep_events<W: Write>(
     writer: &mut W,
 ) -> io::Result<()>
     requires { string_bytes out.old ≡ [] }
-    ensures { OnOk result (Appends (W.contents writer.old) (W.contents writer.new) (events_text remainders (plan_of account.old.house) (state_of account.old.tables) (event_lines events.now))) }
+    ensures { OnOk result (Appends (W.contents writer.old) (W.contents writer.new) (events_text remainders account.old.house account.old.state (event_lines events.now))) }
 {
     for line in EventLines::new(events) {
         keep_event(account, line, out, writer)?;

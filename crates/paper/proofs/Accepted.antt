@@ -4,15 +4,13 @@ use Rattle.std.proofs.lemmas.List.Sums.{sum_by-append, sum_by-cons}
 use Rattle.std.proofs.lemmas.Bool.{and_parts, not_from_true, cond-false, ne_eqb, ltb-true}
 use Rattle.std.proofs.lemmas.Bool.Decides.{nat_tests}
 use Rattle.fault.specs.declared.refusal.Fault.{Fault}
-use Rattle.house.specs.declared.House.{House}
 use Rattle.house.specs.declared.method.Method.{Method}
 use Rattle.house.specs.declared.method.Method.TheVariants.{Remainder, Stated}
 use Rattle.house.specs.declared.room.Kind.{Kind}
 use Rattle.house.specs.declared.room.Kind.TheVariants.{Metered, Plain, Detached}
 use Rattle.house.specs.declared.room.Room.{Room}
-use Rattle.house.specs.Houses.{plan_of}
 use Rattle.house.specs.Plan.{Plan, bare, with_room, pipe_of, common_area, takes, number_fits, method_fits, room_fits, every, ascend_from, last_number, area_sum, lawful, next_refusal, room_refusal, most_rooms, most_area}
-use Rattle.house.proofs.Laws.{laws_of, house_lawful}
+use Rattle.house.proofs.Laws.{laws_of}
 use Rattle.forms.specs.Form.{follow}
 use Rattle.forms.specs.Lawful.{Says}
 use Rattle.forms.specs.Lines.{lines}
@@ -148,6 +146,3 @@ lawful_accepted n m rooms h =
     ap lines_read (paper_lines n m rooms h)
     ∙ ap (λ (r : Result Plan Fault). and_on r (λ plan. rooms_read 2 plan (map room_line rooms))) (house_headed n m laws.number_in laws.method_in)
     ∙ rooms_back n m 2 [] rooms h
-
-pub accepted : (house : House) → reading (paper_text (plan_of house)) ≡ Ok (plan_of house)
-accepted house = lawful_accepted (plan_of house).number (plan_of house).method (plan_of house).rooms (house_lawful house)

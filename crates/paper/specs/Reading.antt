@@ -7,8 +7,6 @@ use Rattle.fault.specs.declared.place.Place.TheVariants.{Text}
 use Rattle.fault.specs.declared.reason.Reason.{Reason}
 use Rattle.fault.specs.declared.reason.Reason.TheVariants.{MalformedLine, NoRoomLine, NumberOutOfRange}
 use Rattle.fault.specs.declared.refusal.Fault.{Fault}
-use Rattle.house.specs.declared.House.{House}
-use Rattle.house.specs.Houses.{plan_of}
 use Rattle.house.specs.Plan.{Plan, bare, with_room, number_fits, area_fits, method_fits, room_refusal}
 use Rattle.forms.specs.Form.{follow}
 use Rattle.forms.specs.Lines.{lines}
@@ -67,11 +65,6 @@ lines_read (l ∷ ls) = and_on (headed (follow (house_form 1) 1 l)) (λ plan. ro
 
 abbrev pub reading : List ℕ → Result Plan Fault
 reading paper = lines_read (lines paper)
-
--- a house by its plan
-abbrev pub planned : Result House Fault → Result Plan Fault
-planned (Ok house) = Ok (plan_of house)
-planned (Err fault) = Err fault
 
 -- a first line by the house that it begins
 abbrev pub bared : Result Heading Fault → Result Plan Fault

@@ -2,11 +2,10 @@
 ghost use Rattle.std.specs.Prelude.{◌≡◌, true, IfOk};
 ghost use Rattle.fault.specs.Numbers.{number, fault_of};
 ghost use Rattle.fault.specs.declared.reason.Reason.TheVariants.{NumberOutOfRange};
-ghost use Rattle.house.specs.Houses.{plan_of};
 ghost use Rattle.house.specs.Plan.{bare, number_fits, method_fits};
 ghost use Rattle.forms.specs.Form.{follow};
 ghost use Rattle.paper.specs.Lines.{house_form, room_form};
-ghost use Rattle.paper.specs.Reading.{missing, misfit_at, fault_at, headed, bared, joined, planned, placed};
+ghost use Rattle.paper.specs.Reading.{missing, misfit_at, fault_at, headed, bared, joined, placed};
 
 use crate::heading::{Heading, read_heading};
 use crate::room_line::{RoomLine, read_room_line};
@@ -84,7 +83,7 @@ impl RoomLine {
 pub(crate) fn begin_house(heading: Heading, text: &[u8], line: usize) -> Result<House, Fault>
     requires number { number_fits heading.number ≡ true }
     requires method { method_fits heading.method ≡ true }
-    ensures { planned result ≡ joined line (bare heading.number heading.method) (follow (room_form line) 1 text.now) }
+    ensures { result ≡ joined line (bare heading.number heading.method) (follow (room_form line) 1 text.now) }
 {
     let said = read_room_line(text, line)?;
     let mut house = House::new();
@@ -96,7 +95,7 @@ pub(crate) fn begin_house(heading: Heading, text: &[u8], line: usize) -> Result<
 
 // Adds the room of a further line.
 pub(crate) fn add_room(house: &mut House, text: &[u8], line: usize) -> Result<(), Fault>
-    ensures { placed result (plan_of house.new) ≡ joined line (plan_of house.old) (follow (room_form line) 1 text.now) }
+    ensures { placed result house.new ≡ joined line house.old (follow (room_form line) 1 text.now) }
 {
     let said = read_room_line(text, line)?;
     house

@@ -1,9 +1,8 @@
 // Reading a whole paper.
 ghost use Rattle.std.specs.Prelude.{◌≡◌, ◌^◌, ◌<◌, length, IfOk};
-ghost use Rattle.house.specs.Houses.{plan_of};
 ghost use Rattle.paper_text.specs.Text.{paper_text};
 ghost use Rattle.paper.specs.Format.{Accepted, Lawful};
-ghost use Rattle.paper.specs.Reading.{reading, rooms_read, planned};
+ghost use Rattle.paper.specs.Reading.{reading, rooms_read};
 
 use crate::checking::{add_room, begin_house, check_heading, missing};
 use fault::refusal::Fault;
@@ -14,8 +13,8 @@ use house::House;
 #[tactic(auto, using(crate::proofs::Judging::joined_some))]
 fn add_rooms(mut house: House, lines: Lines) -> Result<House, Fault>
     requires few { length lines < 2 ^ 63 }
-    requires some { 0 < length (plan_of house).rooms }
-    ensures { planned result ≡ rooms_read 3 (plan_of house) lines.entry }
+    requires some { 0 < length house.rooms }
+    ensures { result ≡ rooms_read 3 house lines.entry }
 {
     for (text, line) in lines.zip(3..) {
         add_room(&mut house, text, line)?;
@@ -25,7 +24,7 @@ fn add_rooms(mut house: House, lines: Lines) -> Result<House, Fault>
 
 #[tactic(auto, using(crate::proofs::Judging::joined_some))]
 fn read_lines(paper: &[u8]) -> Result<House, Fault>
-    ensures { planned result ≡ reading paper.now }
+    ensures { result ≡ reading paper.now }
 {
     let mut lines = Lines::new(paper);
     let first = lines.next().ok_or(missing(1))?;
@@ -37,8 +36,8 @@ fn read_lines(paper: &[u8]) -> Result<House, Fault>
 
 // The house that a paper describes, or the first fault in it. A house has one paper: the one that is written of it.
 pub fn read_paper(paper: &[u8]) -> Result<House, Fault>
-    ensures value { planned result ≡ reading paper.now }
-    ensures written { IfOk result (λ house. paper_text (plan_of house) ≡ paper.now) }
+    ensures value { result ≡ reading paper.now }
+    ensures written { IfOk result (λ house. paper_text house ≡ paper.now) }
     ensures accepted { Accepted }
     ensures lawful { Lawful }
 {
