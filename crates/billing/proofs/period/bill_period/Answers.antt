@@ -1,4 +1,3 @@
-use Rattle.tables.specs.Held.{table_items}
 use Rattle.billing.proofs.PeriodLaws.{bills_made, bills_lawful}
 use Rattle.billing.proofs.period.bill_period.Goals as goal
 
@@ -9,6 +8,6 @@ returns g c =
     let rooms = c.args.rooms.now in
     let total = c.args.total in
     let common = c.args.common in
-    let place = table_items c.pair_up.result in
+    let place = c.pair_up.result in
     let made = bills_made shares method rooms total common place c.write_own_heats.new.place c.write_common_shares.new.place c.pair_up.ensures c.write_own_heats.ensures c.write_common_shares.ensures in
     record { bills = made; laws = bills_lawful shares method rooms total common place made (g.met.R.Sharing.fair c.args.rule.now) c.requires }

@@ -1,7 +1,6 @@
 use Rattle.std.proofs.Common.{ℕ, ◌+◌, List, ◌++◌, length, get_or, take, drop, refl, ap, ◌∙◌, arith, length-set}
 use native.Mathlib.Nat.{min-eq_left}
 use lib.ListN.{length-replicate}
-use Rattle.tables.specs.Held.{table_items}
 use Rattle.billing.proofs.BillLaws.{paired}
 use Rattle.billing.proofs.Written.{write_more, write_all, drops_more, drops_all}
 use Rattle.billing.proofs.period.pair_up.Goals as goal
@@ -15,7 +14,7 @@ loop-i-preserved c =
     let i = c.loop-i.i in
     let owns = c.args.owns.now in
     let commons = c.args.commons.now in
-    let bills = table_items c.loop-i.bills in
+    let bills = c.loop-i.bills in
     let later = paired (drop (i + 1) owns) (drop (i + 1) commons) in
     let bill : ℕ × ℕ = (get_or owns i 0, get_or commons i 0) in (
       ap (λ (v : List (ℕ × ℕ)). take (i + 1) v ++ later) c.set.ensures.after
@@ -28,4 +27,4 @@ returns c =
     let i = c.loop-i.i in
     let owns = c.args.owns.now in
     let commons = c.args.commons.now in
-    write_all (table_items c.loop-i.bills) (paired owns commons) (paired (drop i owns) (drop i commons)) i (omega arith) (drops_all paired owns commons i c.loop-i-test.false (omega arith)) c.loop-i.invariant.0
+    write_all c.loop-i.bills (paired owns commons) (paired (drop i owns) (drop i commons)) i (omega arith) (drops_all paired owns commons i c.loop-i-test.false (omega arith)) c.loop-i.invariant.0
