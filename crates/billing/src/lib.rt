@@ -3,6 +3,7 @@
 #![tactic(auto)]
 
 mod claims;
+mod collecting;
 pub mod counting;
 mod floors;
 mod period;
