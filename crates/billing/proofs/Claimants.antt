@@ -10,8 +10,6 @@ use Rattle.house.specs.declared.method.Method.TheVariants.{Remainder, Stated}
 use Rattle.billing.specs.declared.counting.Role.TheVariants.{Plain}
 use Rattle.billing.specs.declared.counting.CountedRoom.{CountedRoom}
 use Rattle.billing.specs.declared.floors.Floors.{Floors}
-use Rattle.billing.specs.declared.remainder.Unread.{Unread}
-use Rattle.billing.specs.declared.stated.Figures.{Figures}
 use Rattle.billing.specs.declared.claims.Basis.TheVariants.{Excess}
 use Rattle.billing.specs.Counting.{if_read, all_area, plain_area, read_sum, pipe_sum}
 use Rattle.billing.specs.Pots.{weights, pot_shares, by_area, plain_by_area, Both, Shareable}
@@ -48,14 +46,6 @@ module _ (common : ℕ) (rooms : List CountedRoom) (total : ℕ) (q : Option ℕ
   pub plain_pot_shareable : Shareable (plain_pot common rooms total) (plain_by_area rooms)
   plain_pot_shareable = plain_shareable (Remainder common) rooms total q b (plain_pot common rooms total) (omega (arith, plain_pot_le common rooms total)) (plain_weighed common rooms total)
 
-  -- the same by what the code hands on
-  module _ (u : Unread) (is : u ≡ record { left = unread rooms total; common = common; claiming = claiming_area common rooms }) (pot : ℕ) where
-    pub common_pot_by : pot ≡ u.left * u.common / u.claiming → Shareable pot (by_area rooms)
-    common_pot_by e = subst (λ (v : ℕ). Shareable v (by_area rooms)) (sym (e ∙ ap (λ (u : Unread). u.left * u.common / u.claiming) is)) common_pot_shareable
-
-    pub plain_pot_by : pot ≡ cond (eqb u.claiming 0) 0 (u.left - u.left * u.common / u.claiming) → Shareable pot (plain_by_area rooms)
-    plain_pot_by e = subst (λ (v : ℕ). Shareable v (plain_by_area rooms)) (sym (e ∙ ap (λ (u : Unread). cond (eqb u.claiming 0) 0 (u.left - u.left * u.common / u.claiming)) is)) plain_pot_shareable
-
 module _ (percent : ℕ) (rooms : List CountedRoom) (total : ℕ) (q : Option ℕ) (b : Billable (Stated percent) rooms total q) where
   whole : read_sum rooms + pipe_sum rooms + rest rooms total q + common_figure rooms total q ≡ total
   whole = figures_sum rooms total q (rest_claimed percent rooms total q b.lawful b.accepted).within
@@ -65,14 +55,6 @@ module _ (percent : ℕ) (rooms : List CountedRoom) (total : ℕ) (q : Option �
 
   pub rest_shareable : Shareable (rest rooms total q) (plain_by_area rooms)
   rest_shareable = plain_shareable (Stated percent) rooms total q b (rest rooms total q) (omega (arith, whole)) (rest_claimed percent rooms total q b.lawful b.accepted).claimed
-
-  -- the same by what the code hands on
-  module _ (f : Figures) (is : f ≡ record { common = common_figure rooms total q; rest = rest rooms total q }) where
-    pub common_figure_by : Shareable f.common (by_area rooms)
-    common_figure_by = subst (λ (f : Figures). Shareable f.common (by_area rooms)) (sym is) common_figure_shareable
-
-    pub rest_by : Shareable f.rest (plain_by_area rooms)
-    rest_by = subst (λ (f : Figures). Shareable f.rest (plain_by_area rooms)) (sym is) rest_shareable
 
   pub floored : Floored percent rooms
   floored = record { few = b.few; low = b.lawful.percent; read = omega (arith, b.small, whole); area = omega (arith, b.areas, read_le_all rooms) }

@@ -12,4 +12,5 @@ pub mod Written
 pub mod Summed
 pub mod Gathered
 pub mod Counted
+pub mod Collected
 pub mod HouseLaws

@@ -4,6 +4,7 @@ use Rattle.std.proofs.lemmas.Bool.Decides.{nat_tests}
 use Rattle.sharing.specs.Rule.{Shares, Fair}
 use Rattle.house.specs.declared.method.Method.{Method}
 use Rattle.house.specs.declared.method.Method.TheVariants.{Remainder, Stated}
+use Rattle.billing.specs.declared.bill.Bill.{Bill}
 use Rattle.billing.specs.declared.counting.CountedRoom.{CountedRoom}
 use Rattle.billing.specs.Counting.{plain_area, read_sum, pipe_sum}
 use Rattle.billing.specs.Remainder.{unread, claiming_area}
@@ -50,8 +51,8 @@ period_laws shares fair (Stated percent) rooms lawful total q accepted =
 
 -- bills that are made of these own heats and common shares
 module _ (shares : Shares) (method : Method) (rooms : List CountedRoom) (total : ℕ) (q : Option ℕ) where
-  pub bills_made : (bs : List (ℕ × ℕ)) (owns commons : List ℕ) → bs ≡ paired owns commons → owns ≡ own_heats shares method rooms total q → commons ≡ common_shares shares method rooms total q → bs ≡ bills shares method rooms total q
+  pub bills_made : (bs : List Bill) (owns commons : List ℕ) → bs ≡ paired owns commons → owns ≡ own_heats shares method rooms total q → commons ≡ common_shares shares method rooms total q → bs ≡ bills shares method rooms total q
   bills_made bs owns commons e f g = e ∙ ap (λ v. paired v commons) f ∙ ap (paired (own_heats shares method rooms total q)) g
 
-  pub bills_lawful : (bs : List (ℕ × ℕ)) → bs ≡ bills shares method rooms total q → Fair shares → Billable method rooms total q → Laws method rooms total q bs
+  pub bills_lawful : (bs : List Bill) → bs ≡ bills shares method rooms total q → Fair shares → Billable method rooms total q → Laws method rooms total q bs
   bills_lawful bs e fair b = subst (Laws method rooms total q) (sym e) (period_laws shares fair method rooms b.lawful total q b.accepted)

@@ -6,6 +6,7 @@ use Rattle.fault.specs.declared.reason.Reason.TheVariants.{FigureTooLarge, Commo
 use Rattle.sharing.specs.Rule.{Shares}
 use Rattle.house.specs.declared.method.Method.{Method}
 use Rattle.house.specs.declared.method.Method.TheVariants.{Remainder, Stated}
+use Rattle.billing.specs.declared.bill.Bill.{Bill}
 use Rattle.billing.specs.declared.counting.CountedRoom.{CountedRoom}
 use Rattle.billing.specs.Counting.{if_read, plain_count, all_area, read_sum, pipe_sum}
 use Rattle.billing.specs.Pots.{beside, Both}
@@ -59,12 +60,15 @@ abbrev pub common_shares : Shares → Method → List CountedRoom → ℕ → Op
 common_shares shares (Remainder common) rooms total q = remainder.common_shares shares common rooms total
 common_shares shares (Stated percent) rooms total q = stated.common_shares shares rooms total q
 
--- own heat and common share of each room
-abbrev pub bills : Shares → Method → List CountedRoom → ℕ → Option ℕ → List (ℕ × ℕ)
-bills shares method rooms total q = beside (λ own common. (own, common)) (own_heats shares method rooms total q) (common_shares shares method rooms total q)
+abbrev pub bill : ℕ → ℕ → Bill
+bill own common = record { own = own; common = common }
 
-abbrev pub figures : ℕ × ℕ → ℕ
-figures bill = bill.0 + bill.1
+-- own heat and common share of each room
+abbrev pub bills : Shares → Method → List CountedRoom → ℕ → Option ℕ → List Bill
+bills shares method rooms total q = beside bill (own_heats shares method rooms total q) (common_shares shares method rooms total q)
+
+abbrev pub figures : Bill → ℕ
+figures bill = bill.own + bill.common
 
 abbrev pub exact_amounts : Method → List CountedRoom → ℕ → Option ℕ → List Fraction
 exact_amounts (Remainder common) rooms total q = remainder.exact_amounts common rooms total
@@ -76,10 +80,10 @@ floor (Remainder common) rooms r = 0
 floor (Stated percent) rooms r = if_read r.role (λ _. stated.floor percent rooms r.area) 0
 
 -- own heats of the rooms that are read
-abbrev pub read_heats : List CountedRoom → List (ℕ × ℕ) → ℕ
+abbrev pub read_heats : List CountedRoom → List Bill → ℕ
 read_heats [] bs = 0
 read_heats (r ∷ rooms) [] = 0
-read_heats (r ∷ rooms) (b ∷ bs) = if_read r.role (λ _. b.0) 0 + read_heats rooms bs
+read_heats (r ∷ rooms) (b ∷ bs) = if_read r.role (λ _. b.own) 0 + read_heats rooms bs
 
 abbrev pub stated_percent : Method → ℕ
 stated_percent (Remainder common) = 0
@@ -100,9 +104,9 @@ pub record Billable (method : Method) (rooms : List CountedRoom) (total : ℕ) (
   pub accepted : unworkable method rooms total q ≡ None
 
 -- the laws of one period
-pub record Laws (method : Method) (rooms : List CountedRoom) (total : ℕ) (q : Option ℕ) (bs : List (ℕ × ℕ)) : Type 0 where
+pub record Laws (method : Method) (rooms : List CountedRoom) (total : ℕ) (q : Option ℕ) (bs : List Bill) : Type 0 where
   pub long : length bs ≡ length rooms
   pub closes : sum_by figures bs ≡ total
-  pub near : Both (λ (b : ℕ × ℕ) x. Within 3 (figures b) x) bs (exact_amounts method rooms total q)
-  pub floors : Both (λ (r : CountedRoom) (b : ℕ × ℕ). floor method rooms r ≤ b.0) rooms bs
+  pub near : Both (λ (b : Bill) x. Within 3 (figures b) x) bs (exact_amounts method rooms total q)
+  pub floors : Both (λ (r : CountedRoom) (b : Bill). floor method rooms r ≤ b.own) rooms bs
   pub readings : read_heats rooms bs ≡ read_sum rooms

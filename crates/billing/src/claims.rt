@@ -1,12 +1,14 @@
-ghost use Rattle.std.specs.Prelude.{◌≡◌, length};
+ghost use Rattle.std.specs.Prelude.{◌≡◌, ◌≤◌, length};
 ghost use Rattle.billing.specs.Pots.{pot_shares, Shareable};
 ghost use Rattle.billing.specs.Claims.{claim, claims};
 
+use crate::collecting::collect;
 use crate::counting::{CountedRoom, Role};
 use crate::floors::Floors;
 use crate::pots::share_pot;
 use sharing::pot::MOST_CLAIMANTS;
 use sharing::rule::Sharing;
+use tables::Table;
 
 // Who has a claim to a pot, and of what weight.
 #[derive(Clone, Copy)]
@@ -29,20 +31,12 @@ impl Basis {
             (Basis::PlainArea | Basis::Excess(_), _) => None,
         }
     }
-}
 
-fn no_claims() -> [Option<u32>; MOST_CLAIMANTS]
-    ensures { length result ≡ 256 }
-{
-    [None; MOST_CLAIMANTS]
-}
-
-fn write_claims(basis: Basis, rooms: &[CountedRoom], place: &mut [Option<u32>])
-    requires { length place.old ≡ length rooms.now }
-    ensures { place.new ≡ claims basis rooms.now }
-{
-    for (i, room) in rooms.iter().enumerate() {
-        place[i] = basis.claim(*room);
+    fn claims(self, rooms: &[CountedRoom]) -> Table<Option<u32>, MOST_CLAIMANTS>
+        requires { length rooms.now ≤ 256 }
+        ensures { result ≡ claims self rooms.now }
+    {
+        collect(rooms.iter().map(|room| self.claim(*room)))
     }
 }
 
@@ -52,14 +46,9 @@ pub(crate) fn share_by<R: Sharing>(
     pot: u32,
     basis: Basis,
     rooms: &[CountedRoom],
-    place: &mut [u32],
-)
-    requires room { length place.old ≡ length rooms.now }
-    requires shareable { Shareable pot (claims basis rooms.now) }
-    ensures { place.new ≡ pot_shares (R.shares rule.now) pot (claims basis rooms.now) }
+) -> Table<u32, MOST_CLAIMANTS>
+    requires { Shareable pot (claims basis rooms.now) }
+    ensures { result ≡ pot_shares (R.shares rule.now) pot (claims basis rooms.now) }
 {
-    let mut all = no_claims();
-    let claims = &mut all[0..rooms.len()];
-    write_claims(basis, rooms, claims);
-    share_pot(rule, pot, claims, place);
+    share_pot(rule, pot, basis.claims(rooms).as_slice())
 }

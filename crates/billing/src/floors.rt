@@ -1,10 +1,13 @@
-// NOTICE to the helper: read /tmp/hD/NOTICE.md now (bills stay tuples, sums over rooms stay for loops), then delete this line.
 ghost use Rattle.std.specs.Prelude.{◌≡◌, ◌≤◌, map, length, sum};
 ghost use Rattle.std.specs.List.{AllByRecursion};
+ghost use Rattle.billing.specs.Pots.{beside};
 ghost use Rattle.billing.specs.Claims.{floors, floor_by, surcharge_by, excess_by, gross_by, Floored, Among};
 
+use crate::collecting::collect;
 use crate::counting::{CountedRoom, Role};
 use crate::sums::Sums;
+use sharing::pot::MOST_CLAIMANTS;
+use tables::Table;
 
 // What the floors of the rooms that are read are worked from.
 #[derive(Clone, Copy)]
@@ -33,10 +36,8 @@ impl Floors {
     fn floor(self, area: u32) -> u128
         ensures { result ≡ floor_by self area }
     {
-        if self.area == 0 {
-            return 0;
-        }
-        self.percent as u128 * self.readings as u128 * area as u128 / (100 * self.area as u128)
+        let percent = u128::from(self.percent) * u128::from(self.readings);
+        (percent * u128::from(area)).checked_div(100 * u128::from(self.area)).unwrap_or(0)
     }
 
     // What a reading lacks to the floor.
@@ -46,7 +47,7 @@ impl Floors {
         ensures within { result ≤ self.readings }
     {
         match room.role {
-            Role::Read(figure) => self.floor(room.area).saturating_sub(figure as u128) as u32,
+            Role::Read(figure) => self.floor(room.area).saturating_sub(u128::from(figure)) as u32,
             Role::Plain | Role::Detached(_) => 0,
         }
     }
@@ -56,7 +57,7 @@ impl Floors {
         ensures { result ≡ excess_by self room }
     {
         match room.role {
-            Role::Read(figure) => (figure as u128).saturating_sub(self.floor(room.area)) as u32,
+            Role::Read(figure) => u128::from(figure).saturating_sub(self.floor(room.area)) as u32,
             Role::Plain | Role::Detached(_) => 0,
         }
     }
@@ -73,16 +74,27 @@ impl Floors {
         }
     }
 
+    // That of each room, with its share beside it.
+    pub(crate) fn gross_of(
+        self,
+        rooms: &[CountedRoom],
+        shares: &[u32],
+    ) -> Table<u32, MOST_CLAIMANTS>
+        requires few { length rooms.now ≤ 256 }
+        requires same { length shares.now ≡ length rooms.now }
+        requires among { AllByRecursion (Among self) rooms.now }
+        ensures { result ≡ beside (gross_by self) rooms.now shares.now }
+    {
+        let pairs = rooms.iter().zip(shares);
+        collect(pairs.map(|(room, share)| self.gross(*room, *share)))
+    }
+
     // The true sum: 256 surcharges within the limits cannot wrap it.
     pub(crate) fn surcharges(self, rooms: &[CountedRoom]) -> u64
         requires few { length rooms.now ≤ 256 }
         requires among { AllByRecursion (Among self) rooms.now }
         ensures { result ≡ sum (map (surcharge_by self) rooms.now) }
     {
-        let mut sum = 0u64;
-        for room in rooms {
-            sum += self.surcharge(*room) as u64;
-        }
-        sum
+        rooms.iter().map(|room| u64::from(self.surcharge(*room))).sum()
     }
 }

@@ -19,9 +19,9 @@ loop-room-preserved c =
     λ role e is. e ∙ ap (more found r.area) (sym is) ∙ ap (λ s. more s r.area r.role) c.loop-room.invariant.0 ∙ sums_more rooms i _ c.loop-room-test.true in
     let Next : Sums → Type 0 = λ s. Small s (i + 1) in
     elim c.match-room.branch [
-      | in-Read w ↦ (step (Read w.in-Read.figure) w.found-is w.in-Read.is, subst Next (sym w.found-is) (omega arith))
-      | in-Plain w ↦ (step Plain w.found-is w.in-Plain.is, subst Next (sym w.found-is) (omega arith))
-      | in-Detached w ↦ (step (Detached w.in-Detached.pipe) w.found-is w.in-Detached.is, subst Next (sym w.found-is) (omega arith))
+      | in-Read w ↦ (step (Read w.in-Read.figure) (cc) w.in-Read.is, subst Next (sym w.found-is) (omega arith))
+      | in-Plain w ↦ (step Plain (cc) w.in-Plain.is, subst Next (sym w.found-is) (omega arith))
+      | in-Detached w ↦ (step (Detached w.in-Detached.pipe) (cc) w.in-Detached.is, subst Next (sym w.found-is) (omega arith))
     ]
 
 pub returns : goal.returns
