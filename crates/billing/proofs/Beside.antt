@@ -79,6 +79,11 @@ sum_less R S u v each (x ∷ xs) (m ∷ ms) (n ∷ ns) (r, h) (s, k) =
     let rec = sum_less R S u v each xs ms ns h k in
     omega (arith, sum_cons (u x (m - n)) (beside u xs (beside (λ m n. m - n) ms ns)), sum_cons n ns, sum_cons (v x m) (beside v xs ms), each x m n r s)
 
+pub beside_length : {X Y : Type 0} (f : X → ℕ → Y) (xs : List X) (ns : List ℕ) → length (beside f xs ns) ≡ length xs
+beside_length f [] ns = refl
+beside_length f (x ∷ xs) [] = ap suc (beside_length f xs [])
+beside_length f (x ∷ xs) (n ∷ ns) = ap suc (beside_length f xs ns)
+
 pub beside_second : {X : Type 0} (xs : List X) (ns : List ℕ) → length ns ≡ length xs → beside (λ x n. n) xs ns ≡ ns
 beside_second [] [] e = refl
 beside_second [] (n ∷ ns) e = absurd (omega arith)

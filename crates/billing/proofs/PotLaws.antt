@@ -1,5 +1,6 @@
 -- What the sharing of a pot gives those with a claim to it.
 use Rattle.std.proofs.Common.{◌≡◌, ℕ, zero, suc, ◌+◌, ◌*◌, ◌<◌, ◌≤◌, List, [], ◌∷◌, map, length, replicate, Some, None, sum_by, sum, Option, sym, refl, ap, ◌∙◌, subst, ⊎_elim, mul-le-mul_right, lt_of_mul-lt-mul_right, arith}
+use lib.ListN.{length-map}
 use Rattle.std.specs.List.{AllZip, AllByRecursion}
 use Rattle.std.proofs.ByRecursion.{All-from_get_or}
 use Rattle.std.proofs.lemmas.List.Sums.{sum_by-cons}
@@ -52,6 +53,16 @@ put_back_falls P [] ss h = tt
 put_back_falls P (None ∷ claims) ss h = (refl, put_back_falls P claims ss h)
 put_back_falls P (Some w ∷ claims) [] h = absurd h
 put_back_falls P (Some w ∷ claims) (s ∷ ss) (p, h) = (p, put_back_falls P claims ss h)
+
+put_back_length : (claims : List (Option ℕ)) (ss : List ℕ) → length (put_back claims ss) ≡ length claims
+put_back_length [] ss = refl
+put_back_length (None ∷ claims) ss = ap suc (put_back_length claims ss)
+put_back_length (Some w ∷ claims) [] = ap suc (put_back_length claims [])
+put_back_length (Some w ∷ claims) (s ∷ ss) = ap suc (put_back_length claims ss)
+
+-- a share for each entry of a list
+pub shares_length : {X : Type 0} (shares : Shares) (pot : ℕ) (claim : X → Option ℕ) (xs : List X) → length (pot_shares shares pot (map claim xs)) ≡ length xs
+shares_length shares pot claim xs = put_back_length (map claim xs) (shares pot (weights (map claim xs))) ∙ length-map xs claim
 
 put_back_sum : (claims : List (Option ℕ)) (ss : List ℕ) → length ss ≡ length (weights claims) → sum (put_back claims ss) ≡ sum ss
 put_back_sum [] [] e = refl

@@ -1,14 +1,12 @@
-ghost use Rattle.std.specs.Prelude.{◌≡◌, ◌≤◌, length};
+ghost use Rattle.std.specs.Prelude.{◌≡◌};
 ghost use Rattle.billing.specs.Pots.{pot_shares, Shareable};
 ghost use Rattle.billing.specs.Claims.{claim, claims};
 
-use crate::collecting::collect;
+use crate::collecting::{PerRoom, collect};
 use crate::counting::{CountedRoom, Role};
 use crate::floors::Floors;
 use crate::pots::share_pot;
-use sharing::pot::MOST_CLAIMANTS;
 use sharing::rule::Sharing;
-use tables::Table;
 
 // Who has a claim to a pot, and of what weight.
 #[derive(Clone, Copy)]
@@ -32,11 +30,10 @@ impl Basis {
         }
     }
 
-    fn claims(self, rooms: &[CountedRoom]) -> Table<Option<u32>, MOST_CLAIMANTS>
-        requires { length rooms.now ≤ 256 }
-        ensures { result ≡ claims self rooms.now }
+    fn claims(self, rooms: &PerRoom<CountedRoom>) -> PerRoom<Option<u32>>
+            ensures { result ≡ claims self rooms.now }
     {
-        collect(rooms.iter().map(|room| self.claim(*room)))
+        collect(rooms.as_slice().iter().map(|room| self.claim(*room)))
     }
 }
 
@@ -45,10 +42,10 @@ pub(crate) fn share_by<R: Sharing>(
     rule: &R,
     pot: u32,
     basis: Basis,
-    rooms: &[CountedRoom],
-) -> Table<u32, MOST_CLAIMANTS>
+    rooms: &PerRoom<CountedRoom>,
+) -> PerRoom<u32>
     requires { Shareable pot (claims basis rooms.now) }
     ensures { result ≡ pot_shares (R.shares rule.now) pot (claims basis rooms.now) }
 {
-    share_pot(rule, pot, basis.claims(rooms).as_slice())
+    share_pot(rule, pot, &basis.claims(rooms))
 }

@@ -1,11 +1,8 @@
 ghost use Rattle.std.specs.Prelude.{◌≡◌, ◌≤◌, length, None, slice_index_or};
 ghost use Rattle.billing.specs.Counting.{role, counted};
 
-use crate::collecting::collect;
-use house::House;
+use crate::collecting::{PerRoom, collect};
 use house::room::{Kind, Room};
-use sharing::pot::MOST_CLAIMANTS;
-use tables::Table;
 
 // How a room counts in a period.
 #[derive(Clone, Copy, PartialEq, Eq, Debug, Default)]
@@ -48,12 +45,10 @@ fn reading_at(readings: &[Option<u32>], place: usize) -> Option<u32>
 }
 
 // The rooms of a house with their readings beside them.
-pub(crate) fn count_rooms(
-    house: &House,
-    readings: &[Option<u32>],
-) -> Table<CountedRoom, MOST_CLAIMANTS>
-    ensures { result ≡ counted house.now.rooms readings.now }
+pub(crate) fn count_rooms(rooms: &[Room], readings: &[Option<u32>]) -> PerRoom<CountedRoom>
+    requires { length rooms.now ≤ 256 }
+    ensures { result ≡ counted rooms.now readings.now }
 {
-    let rooms = house.rooms().iter().enumerate();
-    collect(rooms.map(|(i, room)| count(room, reading_at(readings, i))))
+    let placed = rooms.iter().enumerate();
+    collect(placed.map(|(i, room)| count(room, reading_at(readings, i))))
 }

@@ -3,11 +3,9 @@ ghost use Rattle.std.specs.List.{AllByRecursion};
 ghost use Rattle.billing.specs.Pots.{beside};
 ghost use Rattle.billing.specs.Claims.{floors, floor_by, surcharge_by, excess_by, gross_by, Floored, Among};
 
-use crate::collecting::collect;
+use crate::collecting::{PerRoom, collect};
 use crate::counting::{CountedRoom, Role};
 use crate::sums::Sums;
-use sharing::pot::MOST_CLAIMANTS;
-use tables::Table;
 
 // What the floors of the rooms that are read are worked from.
 #[derive(Clone, Copy)]
@@ -19,7 +17,7 @@ pub(crate) struct Floors {
 }
 
 impl Floors {
-    pub(crate) fn of(percent: u32, rooms: &[CountedRoom]) -> Floors
+    pub(crate) fn of(percent: u32, rooms: &PerRoom<CountedRoom>) -> Floors
         requires { Floored percent rooms.now }
         ensures { result ≡ floors percent rooms.now }
     {
@@ -77,24 +75,22 @@ impl Floors {
     // That of each room, with its share beside it.
     pub(crate) fn gross_of(
         self,
-        rooms: &[CountedRoom],
-        shares: &[u32],
-    ) -> Table<u32, MOST_CLAIMANTS>
-        requires few { length rooms.now ≤ 256 }
+        rooms: &PerRoom<CountedRoom>,
+        shares: &PerRoom<u32>,
+    ) -> PerRoom<u32>
         requires same { length shares.now ≡ length rooms.now }
         requires among { AllByRecursion (Among self) rooms.now }
         ensures { result ≡ beside (gross_by self) rooms.now shares.now }
     {
-        let pairs = rooms.iter().zip(shares);
+        let pairs = rooms.as_slice().iter().zip(shares.as_slice());
         collect(pairs.map(|(room, share)| self.gross(*room, *share)))
     }
 
     // The true sum: 256 surcharges within the limits cannot wrap it.
-    pub(crate) fn surcharges(self, rooms: &[CountedRoom]) -> u64
-        requires few { length rooms.now ≤ 256 }
-        requires among { AllByRecursion (Among self) rooms.now }
+    pub(crate) fn surcharges(self, rooms: &PerRoom<CountedRoom>) -> u64
+        requires { AllByRecursion (Among self) rooms.now }
         ensures { result ≡ sum (map (surcharge_by self) rooms.now) }
     {
-        rooms.iter().map(|room| u64::from(self.surcharge(*room))).sum()
+        rooms.as_slice().iter().map(|room| u64::from(self.surcharge(*room))).sum()
     }
 }

@@ -1,27 +1,26 @@
-ghost use Rattle.std.specs.Prelude.{◌≡◌, ◌≤◌, length};
+ghost use Rattle.std.specs.Prelude.{◌≡◌};
 ghost use Rattle.std.specs.Result.{result_err};
 ghost use Rattle.billing.specs.Period.{wants_common, outlay, unclaimed, refusal, bills, Billable, Laws};
 
 use crate::bill::Bill;
+use crate::collecting::PerRoom;
 use crate::counting::CountedRoom;
 use crate::remainder::Remainder;
 use crate::stated::Stated;
 use crate::sums::Sums;
 use fault::reason::Reason;
 use house::method::Method;
-use sharing::pot::{MOST_CLAIMANTS, MOST_UNITS};
+use sharing::pot::MOST_UNITS;
 use sharing::rule::Sharing;
-use tables::Table;
 
 // A period that is to be closed.
 #[derive(Clone, Copy)]
 pub(crate) struct Period<'a> {
     pub(crate) method: Method,
-    pub(crate) rooms: &'a [CountedRoom],
+    pub(crate) rooms: &'a PerRoom<CountedRoom>,
     pub(crate) total: u32,
     // The common figure, where one is stated.
     pub(crate) common: Option<u32>,
-    ghost few: { length rooms.now ≤ 256 },
 }
 
 // Where the methods differ there is a match and not a trait: a house holds its method as a value, so a trait would still
@@ -82,7 +81,7 @@ impl Period<'_> {
     }
 
     // Its bills, where nothing speaks against it.
-    pub(crate) fn bills<R: Sharing>(&self, rule: &R) -> Table<Bill, MOST_CLAIMANTS>
+    pub(crate) fn bills<R: Sharing>(&self, rule: &R) -> PerRoom<Bill>
         requires { Billable self.now.method self.now.rooms.now self.now.total self.now.common }
         ensures bills { result ≡ bills (R.shares rule.now) self.now.method self.now.rooms.now self.now.total self.now.common }
         ensures laws { Laws self.now.method self.now.rooms.now self.now.total self.now.common result }

@@ -1,27 +1,24 @@
-ghost use Rattle.std.specs.Prelude.{◌≡◌, ◌≤◌, length};
+ghost use Rattle.std.specs.Prelude.{◌≡◌};
 ghost use Rattle.billing.specs.Pots.{weights, put_back, pot_shares, Shareable};
 
-use crate::collecting::collect;
+use crate::collecting::{PerRoom, collect};
 use sharing::pot::MOST_CLAIMANTS;
 use sharing::rule::Sharing;
-use tables::Table;
 
 // The weights of those with a claim.
-fn gather(claims: &[Option<u32>]) -> Table<u32, MOST_CLAIMANTS>
-    requires { length claims.now ≤ 256 }
+fn gather(claims: &PerRoom<Option<u32>>) -> PerRoom<u32>
     ensures { result ≡ weights claims.now }
 {
-    collect(claims.iter().filter_map(|claim| *claim))
+    collect(claims.as_slice().iter().filter_map(|claim| *claim))
 }
 
 // The next share to each with a claim, and nothing to the others.
-fn put_back(claims: &[Option<u32>], shares: &[u32]) -> Table<u32, MOST_CLAIMANTS>
-    requires { length claims.now ≤ 256 }
+fn put_back(claims: &PerRoom<Option<u32>>, shares: &[u32]) -> PerRoom<u32>
     ensures { result ≡ put_back claims.now shares.now }
 {
-    let mut all = Table::filled(0, 0);
+    let mut all = PerRoom::filled(0, 0);
     let mut left = shares.iter();
-    for claim in claims {
+    for claim in claims.as_slice() {
         let share = match claim {
             Some(_) => left.next().copied().unwrap_or(0),
             None => 0,
@@ -35,8 +32,8 @@ fn put_back(claims: &[Option<u32>], shares: &[u32]) -> Table<u32, MOST_CLAIMANTS
 pub(crate) fn share_pot<R: Sharing>(
     rule: &R,
     pot: u32,
-    claims: &[Option<u32>],
-) -> Table<u32, MOST_CLAIMANTS>
+    claims: &PerRoom<Option<u32>>,
+) -> PerRoom<u32>
     requires { Shareable pot claims.now }
     ensures { result ≡ pot_shares (R.shares rule.now) pot claims.now }
 {

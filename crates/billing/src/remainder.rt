@@ -6,18 +6,16 @@ ghost use Rattle.billing.specs.Period.{bills, Billable};
 
 use crate::bill::{Bill, pair_up};
 use crate::claims::{Basis, share_by};
-use crate::collecting::collect;
+use crate::collecting::{PerRoom, collect};
 use crate::counting::{CountedRoom, Role};
 use crate::sums::Sums;
-use sharing::pot::MOST_CLAIMANTS;
 use sharing::rule::Sharing;
-use tables::Table;
 
 // A period under the method Remainder that nothing speaks against.
 #[derive(Clone, Copy)]
 pub(crate) struct Remainder<'a> {
     pub(crate) common_area: u32,
-    pub(crate) rooms: &'a [CountedRoom],
+    pub(crate) rooms: &'a PerRoom<CountedRoom>,
     pub(crate) total: u32,
     ghost billable: { Billable (methods.Remainder common_area) rooms.now total None } by { Prim.hlevel props },
 }
@@ -55,24 +53,24 @@ impl Remainder<'_> {
         self.unread() - self.common_pot()
     }
 
-    fn own_heats<R: Sharing>(&self, rule: &R) -> Table<u32, MOST_CLAIMANTS>
+    fn own_heats<R: Sharing>(&self, rule: &R) -> PerRoom<u32>
         ensures { result ≡ own_heats (R.shares rule.now) self.now.common_area self.now.rooms.now self.now.total }
     {
         let shares = share_by(rule, self.plain_pot(), Basis::PlainArea, self.rooms);
-        let heats = self.rooms.iter().zip(shares.as_slice());
+        let heats = self.rooms.as_slice().iter().zip(shares.as_slice());
         collect(heats.map(|(room, share)| own_heat(*room, *share)))
     }
 
-    fn common_shares<R: Sharing>(&self, rule: &R) -> Table<u32, MOST_CLAIMANTS>
+    fn common_shares<R: Sharing>(&self, rule: &R) -> PerRoom<u32>
         ensures { result ≡ common_shares (R.shares rule.now) self.now.common_area self.now.rooms.now self.now.total }
     {
         share_by(rule, self.common_pot(), Basis::Area, self.rooms)
     }
 
-    pub(crate) fn bills<R: Sharing>(&self, rule: &R) -> Table<Bill, MOST_CLAIMANTS>
+    pub(crate) fn bills<R: Sharing>(&self, rule: &R) -> PerRoom<Bill>
         ensures { result ≡ bills (R.shares rule.now) (methods.Remainder self.now.common_area) self.now.rooms.now self.now.total None }
     {
-        pair_up(self.own_heats(rule).as_slice(), self.common_shares(rule).as_slice())
+        pair_up(&self.own_heats(rule), &self.common_shares(rule))
     }
 }
 

@@ -1,5 +1,5 @@
 ghost use Rattle.std.proofs.Props.{props};
-ghost use Rattle.std.specs.Prelude.{◌≡◌, ◌-◌, ◌≤◌, length};
+ghost use Rattle.std.specs.Prelude.{◌≡◌, ◌-◌, ◌≤◌};
 ghost use Rattle.house.specs.declared.method.Method.TheVariants as methods;
 ghost use Rattle.billing.specs.Counting.{read_sum, pipe_sum};
 ghost use Rattle.billing.specs.Pots.{beside, Both};
@@ -9,19 +9,17 @@ ghost use Rattle.billing.specs.Period.{bills, Billable};
 
 use crate::bill::{Bill, pair_up};
 use crate::claims::{Basis, share_by};
-use crate::collecting::collect;
+use crate::collecting::{PerRoom, collect};
 use crate::counting::CountedRoom;
 use crate::floors::Floors;
 use crate::sums::Sums;
-use sharing::pot::MOST_CLAIMANTS;
 use sharing::rule::Sharing;
-use tables::Table;
 
 // A period under the method Stated that nothing speaks against.
 #[derive(Clone, Copy)]
 pub(crate) struct Stated<'a> {
     pub(crate) floor_percent: u32,
-    pub(crate) rooms: &'a [CountedRoom],
+    pub(crate) rooms: &'a PerRoom<CountedRoom>,
     pub(crate) total: u32,
     pub(crate) common: Option<u32>,
     ghost billable: { Billable (methods.Stated floor_percent) rooms.now total common } by { Prim.hlevel props },
@@ -56,15 +54,15 @@ impl Stated<'_> {
         Floors::of(self.floor_percent, self.rooms)
     }
 
-    fn gross_heats<R: Sharing>(&self, rule: &R) -> Table<u32, MOST_CLAIMANTS>
+    fn gross_heats<R: Sharing>(&self, rule: &R) -> PerRoom<u32>
         ensures { result ≡ gross_heats (R.shares rule.now) self.now.floor_percent self.now.rooms.now self.now.total self.now.common }
     {
         let shares = share_by(rule, self.rest(), Basis::PlainArea, self.rooms);
-        self.floors().gross_of(self.rooms, shares.as_slice())
+        self.floors().gross_of(self.rooms, &shares)
     }
 
     // What the rooms above their floors bear of the surcharges.
-    fn deductions<R: Sharing>(&self, rule: &R) -> Table<u32, MOST_CLAIMANTS>
+    fn deductions<R: Sharing>(&self, rule: &R) -> PerRoom<u32>
         ensures { result ≡ deductions (R.shares rule.now) self.now.floor_percent self.now.rooms.now }
     {
         let floors = self.floors();
@@ -72,30 +70,29 @@ impl Stated<'_> {
         share_by(rule, pot, Basis::Excess(floors), self.rooms)
     }
 
-    fn own_heats<R: Sharing>(&self, rule: &R) -> Table<u32, MOST_CLAIMANTS>
+    fn own_heats<R: Sharing>(&self, rule: &R) -> PerRoom<u32>
         ensures { result ≡ own_heats (R.shares rule.now) self.now.floor_percent self.now.rooms.now self.now.total self.now.common }
     {
-        deduct(self.gross_heats(rule).as_slice(), self.deductions(rule).as_slice())
+        deduct(&self.gross_heats(rule), &self.deductions(rule))
     }
 
-    fn common_shares<R: Sharing>(&self, rule: &R) -> Table<u32, MOST_CLAIMANTS>
+    fn common_shares<R: Sharing>(&self, rule: &R) -> PerRoom<u32>
         ensures { result ≡ common_shares (R.shares rule.now) self.now.rooms.now self.now.total self.now.common }
     {
         share_by(rule, self.common_figure(), Basis::Area, self.rooms)
     }
 
-    pub(crate) fn bills<R: Sharing>(&self, rule: &R) -> Table<Bill, MOST_CLAIMANTS>
+    pub(crate) fn bills<R: Sharing>(&self, rule: &R) -> PerRoom<Bill>
         ensures { result ≡ bills (R.shares rule.now) (methods.Stated self.now.floor_percent) self.now.rooms.now self.now.total self.now.common }
     {
-        pair_up(self.own_heats(rule).as_slice(), self.common_shares(rule).as_slice())
+        pair_up(&self.own_heats(rule), &self.common_shares(rule))
     }
 }
 
-fn deduct(heats: &[u32], deductions: &[u32]) -> Table<u32, MOST_CLAIMANTS>
-    requires few { length heats.now ≤ 256 }
-    requires covered { Both (λ heat deduction. deduction ≤ heat) heats.now deductions.now }
+fn deduct(heats: &PerRoom<u32>, deductions: &PerRoom<u32>) -> PerRoom<u32>
+    requires { Both (λ heat deduction. deduction ≤ heat) heats.now deductions.now }
     ensures { result ≡ beside (λ heat deduction. heat - deduction) heats.now deductions.now }
 {
-    let pairs = heats.iter().zip(deductions);
+    let pairs = heats.as_slice().iter().zip(deductions.as_slice());
     collect(pairs.map(|(heat, deduction)| *heat - *deduction))
 }

@@ -1,6 +1,7 @@
-ghost use Rattle.std.specs.Prelude.{◌≡◌, ◌+◌, ◌^◌, ◌<◌, ◌≤◌, length};
+ghost use Rattle.std.specs.Prelude.{◌≡◌, ◌+◌, ◌^◌, ◌<◌};
 ghost use Rattle.billing.specs.Counting.{sums};
 
+use crate::collecting::PerRoom;
 use crate::counting::{CountedRoom, Role};
 
 // The sums over the rooms of a period: 256 figures of 32 bits cannot wrap one.
@@ -14,21 +15,21 @@ pub(crate) struct Sums {
 }
 
 impl Sums {
-    pub(crate) fn of(rooms: &[CountedRoom]) -> Sums
-        requires { length rooms.now ≤ 256 }
+    pub(crate) fn of(rooms: &PerRoom<CountedRoom>) -> Sums
         ensures value { result ≡ sums rooms.now }
         ensures narrow { (result.readings + result.pipes < 2 ^ 42) × (result.plain_area < 2 ^ 42) }
     {
         let mut found = Sums::default();
-        for room in rooms {
+        for room in rooms.as_slice() {
+            let area = u64::from(room.area);
             match room.role {
                 Role::Read(figure) => {
-                    found.read_area += u64::from(room.area);
+                    found.read_area += area;
                     found.readings += u64::from(figure);
                 }
                 Role::Plain => {
                     found.plain_rooms += 1;
-                    found.plain_area += u64::from(room.area);
+                    found.plain_area += area;
                 }
                 Role::Detached(pipe) => found.pipes += u64::from(pipe),
             }

@@ -23,10 +23,10 @@ pub fn work_out<R: Sharing>(
 ) -> Result<Table<Bill, MOST_CLAIMANTS>, Reason>
     ensures { result ≡ ruled (refusal house.now.method (counted house.now.rooms readings.now) total common) (bills (R.shares rule.now) house.now.method (counted house.now.rooms readings.now) total common) }
 {
-    let rooms = count_rooms(house, readings);
+    let rooms = count_rooms(house.rooms(), readings);
     let period = Period {
         method: house.method(),
-        rooms: rooms.as_slice(),
+        rooms: &rooms,
         total,
         common,
     };

@@ -7,7 +7,7 @@ use Rattle.billing.proofs.counting.count_rooms.Goals as goal
 
 pub returns : goal.returns
 returns c =
-    let rooms = c.args.house.now.rooms in
+    let rooms = c.args.rooms.now in
     let readings = c.args.readings.now in
     collected _ c.collect.ensures.ran
     (YieldsList-from_map _ (counted_at readings) (YieldsList-from_enumerate (YieldsList-from_slice rooms cc) cc) c.map.ensures.closure (λ x r q k. search rules))

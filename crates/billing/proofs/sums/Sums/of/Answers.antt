@@ -11,7 +11,7 @@ use Rattle.billing.proofs.sums.Sums.of.Goals.{in-Read, in-Plain, in-Detached}
 pub loop-room-preserved : goal.loop-room-preserved
 loop-room-preserved c =
     let i = c.loop-room.room-index in
-    let rooms = c.args.rooms.now in
+    let rooms = c.as_slice-room-items.result.now in
     let r = get_or rooms i (record { area = 0; role = Read 0 }) in
     let found = c.loop-room.found in
     let next = c.match-room.found in
@@ -26,6 +26,6 @@ loop-room-preserved c =
 
 pub returns : goal.returns
 returns c = record {
-  value = c.loop-room.invariant.0 ∙ ap sums (take_all _ _ c.loop-room-test.false);
+  value = c.loop-room.invariant.0 ∙ ap sums (take_all _ _ c.loop-room-test.false ∙ c.as_slice-room-items.ensures.value);
   narrow = omega arith;
 }
