@@ -49,10 +49,6 @@ period_laws shares fair (Stated percent) rooms lawful total q accepted =
     let facts = rest_claimed percent rooms total q lawful accepted in
     stated_laws percent rooms total q lawful.percent shares fair facts.claimed lawful facts.within
 
--- bills that are made of these own heats and common shares
 module _ (shares : Shares) (method : Method) (rooms : List CountedRoom) (total : ℕ) (q : Option ℕ) where
-  pub bills_made : (bs : List Bill) (owns commons : List ℕ) → bs ≡ paired owns commons → owns ≡ own_heats shares method rooms total q → commons ≡ common_shares shares method rooms total q → bs ≡ bills shares method rooms total q
-  bills_made bs owns commons e f g = e ∙ ap (λ v. paired v commons) f ∙ ap (paired (own_heats shares method rooms total q)) g
-
   pub bills_lawful : (bs : List Bill) → bs ≡ bills shares method rooms total q → Fair shares → Billable method rooms total q → Laws method rooms total q bs
   bills_lawful bs e fair b = subst (Laws method rooms total q) (sym e) (period_laws shares fair method rooms b.lawful total q b.accepted)

@@ -103,9 +103,6 @@ module _ (shares : Shares) (fair : Fair shares) (pot : ℕ) (claims : List (Opti
   pub pot_falls : Both (Falls (Portion pot (sum (weights claims)))) claims (pot_shares shares pot claims)
   pot_falls = put_back_falls (Portion pot (sum (weights claims))) claims (shares pot (weights claims)) portions
 
-  pub pot_length : length (pot_shares shares pot claims) ≡ length claims
-  pot_length = both_length (Falls (Portion pot (sum (weights claims)))) claims (pot_shares shares pot claims) pot_falls
-
   pub pot_sum : sum (pot_shares shares pot claims) ≡ pot
   pot_sum = put_back_sum claims (shares pot (weights claims)) (fair.long pot (weights claims)) ∙ shares_sum shares fair pot (weights claims) weighed
 

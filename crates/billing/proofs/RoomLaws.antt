@@ -18,12 +18,6 @@ pub sums_add : {X : Type 0} (f g h : X → ℕ) → ((x : X) → f x ≡ g x + h
 sums_add f g h each [] = refl
 sums_add f g h each (x ∷ xs) = omega (arith, sum_by-cons f x xs, sum_by-cons g x xs, sum_by-cons h x xs, each x, sums_add f g h each xs)
 
--- of a room that is not read
-pub not_read : {X : Type 0} (role : Role) (f : ℕ → X) (y : X) → ((m : ℕ) → role ≡ Read m → ⊥) → if_read role f y ≡ y
-not_read (Read m) f y other = absurd (other m refl)
-not_read Plain f y other = refl
-not_read (Detached t) f y other = refl
-
 pub areas_sum : (rooms : List CountedRoom) → sum (weights (by_area rooms)) ≡ all_area rooms
 areas_sum rooms = weights_sum (λ (r : CountedRoom). Some r.area) (λ (r : CountedRoom). r.area) (λ r. refl) rooms
 
