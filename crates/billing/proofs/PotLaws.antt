@@ -85,8 +85,7 @@ no_portions pot all (w ∷ ws) z (p, le) =
 
 -- a pot with no claimant holds nothing
 pub nothing : (pot all : ℕ) → (0 < pot → 0 < all) → all ≤ 0 → pot ≡ 0
-nothing zero all weighed none = refl
-nothing (suc pot) all weighed none = absurd (omega (arith, weighed (omega arith)))
+nothing pot all weighed none = grind arith
 
 module _ (shares : Shares) (fair : Fair shares) (pot : ℕ) (claims : List (Option ℕ)) (weighed : 0 < pot → 0 < sum (weights claims)) where
   portions : AllZip (Portion pot (sum (weights claims))) (weights claims) (shares pot (weights claims))

@@ -1,7 +1,8 @@
 -- The method Remainder keeps the laws of a period.
 use Rattle.std.proofs.Common.{◌≡◌, ℕ, ◌+◌, ◌-◌, ◌*◌, ◌/◌, ◌<◌, ◌≤◌, eqb, List, Some, None, Option, sym, refl, ap, ◌∙◌, subst, ⊎_elim, mul-div_cancel, arith}
 use native.Mathlib.Nat.{div-zero}
-use Rattle.std.proofs.lemmas.Bool.{cases_lt, cond-true, cond-false, eq-eqb, ne_eqb}
+use Rattle.std.proofs.lemmas.Bool.{cases_lt}
+use Rattle.std.proofs.lemmas.Bool.Decides.{nat_tests}
 use Rattle.sharing.specs.Rule.{Shares, Fair}
 use Rattle.sharing.specs.Parts.{capped}
 use Rattle.house.specs.declared.method.Method.TheVariants.{Remainder}
@@ -30,17 +31,13 @@ module _ (common : ℕ) (rooms : List CountedRoom) (total : ℕ) where
       (cases_lt 0 d)
 
   some_plain_pot : 0 < claiming_area common rooms → plain_pot common rooms total ≡ unread rooms total - common_pot common rooms total
-  some_plain_pot pos = cond-false (eqb (claiming_area common rooms) 0) 0 _ (ne_eqb _ 0 (omega arith))
+  some_plain_pot pos = grind (arith, nat_tests)
 
   no_plain_pot : claiming_area common rooms ≤ 0 → plain_pot common rooms total ≡ 0
-  no_plain_pot none = cond-true (eqb (claiming_area common rooms) 0) 0 _ (eq-eqb _ 0 (omega arith))
+  no_plain_pot none = grind (arith, nat_tests)
 
   pub plain_pot_le : plain_pot common rooms total ≤ unread rooms total
-  plain_pot_le =
-      ⊎_elim
-      (λ pos. omega (arith, some_plain_pot pos))
-      (λ none. omega (arith, no_plain_pot none))
-      (cases_lt 0 (claiming_area common rooms))
+  plain_pot_le = grind (arith, nat_tests)
 
   -- with no plain room the common area claims all, if there is one
   pub plain_weighed : 0 < plain_pot common rooms total → 0 < plain_area rooms
@@ -59,11 +56,7 @@ module _ (common : ℕ) (rooms : List CountedRoom) (total : ℕ) where
 
   module _ (claimed : 0 < unread rooms total → 0 < claiming_area common rooms) where
     pub plain_pot_is : plain_pot common rooms total ≡ unread rooms total - common_pot common rooms total
-    plain_pot_is =
-        ⊎_elim
-        some_plain_pot
-        (λ none. omega (arith, no_plain_pot none, nothing (unread rooms total) (claiming_area common rooms) claimed none))
-        (cases_lt 0 (claiming_area common rooms))
+    plain_pot_is = grind (arith, nat_tests)
 
 module _ (common : ℕ) (rooms : List CountedRoom) (total : ℕ) (claimed : 0 < unread rooms total → 0 < claiming_area common rooms) where
   -- without rounding
@@ -83,14 +76,10 @@ module _ (common : ℕ) (rooms : List CountedRoom) (total : ℕ) (claimed : 0 < 
   own_lies (Detached t) area s h = subst (λ (v : ℕ). Lies 2 1 v (whole 0)) (sym h) (lies_whole 2 1 0 (omega arith) (omega arith))
 
   own_sum : (role : Role) (area s : ℕ) → Plain_share role area s → if_read role (λ m. m) s ≡ if_read role (λ m. m) 0 + s
-  own_sum (Read m) area s h = omega arith
-  own_sum Plain area s h = omega arith
-  own_sum (Detached t) area s h = omega arith
+  own_sum role area s h = grind arith
 
   reading : (role : Role) (s : ℕ) → if_read role (λ _. if_read role (λ m. m) s) 0 ≡ if_read role (λ m. m) 0
-  reading (Read m) s = refl
-  reading Plain s = refl
-  reading (Detached t) s = refl
+  reading role s = grind arith
 
   pub remainder_laws : (shares : Shares) → Fair shares → (q : Option ℕ) → Lawful (Remainder common) rooms → read_sum rooms ≤ total → Laws (Remainder common) rooms total q (bills shares (Remainder common) rooms total q)
   remainder_laws shares fair q lawful within =

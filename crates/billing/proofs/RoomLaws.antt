@@ -22,28 +22,13 @@ pub areas_sum : (rooms : List CountedRoom) → sum (weights (by_area rooms)) ≡
 areas_sum rooms = weights_sum (λ (r : CountedRoom). Some r.area) (λ (r : CountedRoom). r.area) (λ r. refl) rooms
 
 pub plain_areas_sum : (rooms : List CountedRoom) → sum (weights (plain_by_area rooms)) ≡ plain_area rooms
-plain_areas_sum rooms = weights_sum (λ (r : CountedRoom). if_plain r.role (Some r.area) None) (λ (r : CountedRoom). if_plain r.role r.area 0) (λ r. by r.role r.area) rooms
-  where
-    by : (role : Role) (area : ℕ) → weight (if_plain role (Some area) None) ≡ if_plain role area 0
-    by (Read m) area = refl
-    by Plain area = refl
-    by (Detached t) area = refl
+plain_areas_sum rooms = weights_sum (λ (r : CountedRoom). if_plain r.role (Some r.area) None) (λ (r : CountedRoom). if_plain r.role r.area 0) (λ r. grind arith) rooms
 
 pub plain_le_all : (rooms : List CountedRoom) → plain_area rooms ≤ all_area rooms
-plain_le_all rooms = sums_le (λ (r : CountedRoom). if_plain r.role r.area 0) (λ (r : CountedRoom). r.area) (λ r. by r.role r.area) rooms
-  where
-    by : (role : Role) (area : ℕ) → if_plain role area 0 ≤ area
-    by (Read m) area = omega arith
-    by Plain area = omega arith
-    by (Detached t) area = omega arith
+plain_le_all rooms = sums_le (λ (r : CountedRoom). if_plain r.role r.area 0) (λ (r : CountedRoom). r.area) (λ r. grind arith) rooms
 
 pub read_le_all : (rooms : List CountedRoom) → read_area rooms ≤ all_area rooms
-read_le_all rooms = sums_le (λ (r : CountedRoom). if_read r.role (λ _. r.area) 0) (λ (r : CountedRoom). r.area) (λ r. by r.role r.area) rooms
-  where
-    by : (role : Role) (area : ℕ) → if_read role (λ _. area) 0 ≤ area
-    by (Read m) area = omega arith
-    by Plain area = omega arith
-    by (Detached t) area = omega arith
+read_le_all rooms = sums_le (λ (r : CountedRoom). if_read r.role (λ _. r.area) 0) (λ (r : CountedRoom). r.area) (λ r. grind arith) rooms
 
 -- a house with a room has an area
 pub some_area : (rooms : List CountedRoom) → 0 < length rooms → AllByRecursion (λ (r : CountedRoom). 0 < r.area) rooms → 0 < all_area rooms
@@ -54,12 +39,8 @@ some_area (r ∷ rooms) some (a, areas) = omega (arith, sum_by-cons (λ (r : Cou
 pub plain_counted : (rooms : List CountedRoom) → AllByRecursion (λ (r : CountedRoom). 0 < r.area) rooms → plain_count rooms ≤ plain_area rooms
 plain_counted [] areas = omega arith
 plain_counted (r ∷ rooms) (a, areas) =
-    omega (arith, sum_by-cons (λ (r : CountedRoom). cond {A = ℕ} (if_plain r.role true false) 1 0) r rooms, sum_by-cons (λ (r : CountedRoom). if_plain r.role r.area 0) r rooms, by r.role r.area a, plain_counted rooms areas)
-  where
-    by : (role : Role) (area : ℕ) → 0 < area → cond {A = ℕ} (if_plain role true false) 1 0 ≤ if_plain role area 0
-    by (Read m) area some = omega arith
-    by Plain area some = some
-    by (Detached t) area some = omega arith
+    let plain : cond {A = ℕ} (if_plain r.role true false) 1 0 ≤ if_plain r.role r.area 0 = grind arith in
+    omega (arith, sum_by-cons (λ (r : CountedRoom). cond {A = ℕ} (if_plain r.role true false) 1 0) r rooms, sum_by-cons (λ (r : CountedRoom). if_plain r.role r.area 0) r rooms, plain_counted rooms areas)
 
 -- a pot shared among the rooms by area, and among those that count as plain
 module _ (shares : Shares) (fair : Fair shares) (pot : ℕ) (rooms : List CountedRoom) where

@@ -46,9 +46,7 @@ module _ (percent : ℕ) (rooms : List CountedRoom) (total : ℕ) (q : Option �
   gross_is (Detached t) area sur s h = refl
 
   gross_sum : (role : Role) (area sur s : ℕ) → Rest_share role area s → gross sur role s ≡ gross sur role 0 + s
-  gross_sum (Read m) area sur s h = omega arith
-  gross_sum Plain area sur s h = omega arith
-  gross_sum (Detached t) area sur s h = omega arith
+  gross_sum role area sur s h = grind arith
 
   -- no deduction passes the excess
   deducted_le : (exc d : ℕ) → Portion (surcharges percent rooms) (excesses percent rooms) exc d → d ≤ exc
@@ -80,24 +78,16 @@ module _ (percent : ℕ) (rooms : List CountedRoom) (total : ℕ) (q : Option �
 
   -- a deduction leaves the rest of what is billed
   less : (role : Role) (area f g d : ℕ) → Gross role area (if_read role (λ m. f - m) 0) g → Deducted role (if_read role (λ m. m - f) 0) d → (g - d) + d ≡ g
-  less (Read m) area f g d e p = omega (arith, deducted_le (m - f) d p)
-  less Plain area f g d p z = omega arith
-  less (Detached t) area f g d e z = omega arith
+  less role area f g d h k = grind (arith, deducted_le)
 
   less_read : (role : Role) (area f g d : ℕ) → Gross role area (if_read role (λ m. f - m) 0) g → Deducted role (if_read role (λ m. m - f) 0) d → if_read role (λ _. g - d) 0 + d ≡ if_read role (λ m. m + (f - m)) 0
-  less_read (Read m) area f g d e p = omega (arith, deducted_le (m - f) d p)
-  less_read Plain area f g d p z = omega arith
-  less_read (Detached t) area f g d e z = omega arith
+  less_read role area f g d h k = grind (arith, deducted_le)
 
   read_with : (role : Role) (f : ℕ) → if_read role (λ m. m + (f - m)) 0 ≡ if_read role (λ m. m) 0 + if_read role (λ m. f - m) 0
-  read_with (Read m) f = refl
-  read_with Plain f = refl
-  read_with (Detached t) f = refl
+  read_with role f = grind arith
 
   base_parts : (role : Role) (f : ℕ) → gross (if_read role (λ m. f - m) 0) role 0 ≡ if_read role (λ m. m + (f - m)) 0 + pipe role
-  base_parts (Read m) f = omega arith
-  base_parts Plain f = refl
-  base_parts (Detached t) f = omega arith
+  base_parts role f = grind arith
 
   -- what each room is billed before the deduction, and its deduction
   abbrev Heat : CountedRoom → ℕ → Type 0

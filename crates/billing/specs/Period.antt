@@ -1,5 +1,5 @@
 -- One period of a house: when it is refused, its bills and exact amounts, and the laws that every method keeps.
-use Rattle.std.specs.Prelude.{◌≡◌, ℕ, ◌+◌, ◌<◌, ◌≤◌, Bool, true, false, cond, not, ◌&&◌, ◌||◌, List, [], ◌∷◌, length, is_some, Some, None, sum_by, Option, ◌==◌, nat_lt}
+use Rattle.std.specs.Prelude.{◌≡◌, ℕ, ◌+◌, ◌<◌, ◌≤◌, Bool, true, false, if◌then◌else◌, not, ◌&&◌, ◌||◌, List, [], ◌∷◌, length, is_some, Some, None, sum_by, Option, ◌==◌, nat_lt}
 use Rattle.std.specs.List.{AllByRecursion}
 use Rattle.fault.specs.declared.reason.Reason.{Reason}
 use Rattle.fault.specs.declared.reason.Reason.TheVariants.{FigureTooLarge, CommonFigure, ReadingsAboveTotal, RestUnclaimed}
@@ -44,13 +44,14 @@ unclaimed (Stated percent) rooms total = false
 -- the first reason that applies to working a period out, and to closing one
 abbrev pub unworkable : Method → List CountedRoom → ℕ → Option ℕ → Option Reason
 unworkable method rooms total q =
-    cond (differ (wants_common method rooms) (is_some q)) (Some CommonFigure)
-    (cond (nat_lt total (outlay method rooms q)) (Some ReadingsAboveTotal)
-    (cond (unclaimed method rooms total) (Some RestUnclaimed)
-    None))
+    if differ (wants_common method rooms) (is_some q) then Some CommonFigure
+    else (if nat_lt total (outlay method rooms q) then Some ReadingsAboveTotal
+    else (if unclaimed method rooms total then Some RestUnclaimed
+    else None))
 
 abbrev pub refusal : Method → List CountedRoom → ℕ → Option ℕ → Option Reason
-refusal method rooms total q = cond (nat_lt 100000000 total || nat_lt 100000000 (given q)) (Some FigureTooLarge) (unworkable method rooms total q)
+refusal method rooms total q =
+    if nat_lt 100000000 total || nat_lt 100000000 (given q) then Some FigureTooLarge else unworkable method rooms total q
 
 abbrev pub own_heats : Shares → Method → List CountedRoom → ℕ → Option ℕ → List ℕ
 own_heats shares (Remainder common) rooms total q = remainder.own_heats shares common rooms total
