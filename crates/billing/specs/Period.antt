@@ -71,6 +71,10 @@ bills shares method rooms total q = beside bill (own_heats shares method rooms t
 abbrev pub figures : Bill → ℕ
 figures bill = bill.own + bill.common
 
+-- of a room that is billed nothing
+abbrev pub no_bill : Bill
+no_bill = bill 0 0
+
 abbrev pub exact_amounts : Method → List CountedRoom → ℕ → Option ℕ → List Fraction
 exact_amounts (Remainder common) rooms total q = remainder.exact_amounts common rooms total
 exact_amounts (Stated percent) rooms total q = stated.exact_amounts percent rooms total q

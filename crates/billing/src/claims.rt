@@ -31,7 +31,7 @@ impl Basis {
     }
 
     fn claims(self, rooms: &PerRoom<CountedRoom>) -> PerRoom<Option<u32>>
-            ensures { result ≡ claims self rooms.now }
+        ensures { result ≡ claims self rooms.now }
     {
         collect(rooms.as_slice().iter().map(|room| self.claim(*room)))
     }

@@ -34,8 +34,10 @@ impl Floors {
     fn floor(self, area: u32) -> u128
         ensures { result ≡ floor_by self area }
     {
-        let percent = u128::from(self.percent) * u128::from(self.readings);
-        (percent * u128::from(area)).checked_div(100 * u128::from(self.area)).unwrap_or(0)
+        let product = u128::from(self.percent) * u128::from(self.readings) * u128::from(area);
+        product
+            .checked_div(100 * u128::from(self.area))
+            .unwrap_or(0)
     }
 
     // What a reading lacks to the floor.
@@ -91,6 +93,10 @@ impl Floors {
         requires { AllByRecursion (Among self) rooms.now }
         ensures { result ≡ sum (map (surcharge_by self) rooms.now) }
     {
-        rooms.as_slice().iter().map(|room| u64::from(self.surcharge(*room))).sum()
+        rooms
+            .as_slice()
+            .iter()
+            .map(|room| u64::from(self.surcharge(*room)))
+            .sum()
     }
 }

@@ -39,8 +39,8 @@ impl Remainder<'_> {
     fn common_pot(&self) -> u32
         ensures { result ≡ common_pot self.now.common_area self.now.rooms.now self.now.total }
     {
-        let whole = u64::from(self.unread()) * u64::from(self.common_area);
-        whole.checked_div(self.claiming_area()).unwrap_or(0) as u32
+        let product = u64::from(self.unread()) * u64::from(self.common_area);
+        product.checked_div(self.claiming_area()).unwrap_or(0) as u32
     }
 
     // What that leaves to the rooms that count as plain: nothing where nobody has a claim.

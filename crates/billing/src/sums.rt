@@ -19,6 +19,7 @@ impl Sums {
         ensures value { result ≡ sums rooms.now }
         ensures narrow { (result.readings + result.pipes < 2 ^ 42) × (result.plain_area < 2 ^ 42) }
     {
+        // One match says what a room adds to each sum, where five chains would need five of them.
         let mut found = Sums::default();
         for room in rooms.as_slice() {
             let area = u64::from(room.area);

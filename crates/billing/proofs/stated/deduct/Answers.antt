@@ -12,9 +12,17 @@ Covered heat deduction = deduction ≤ heat
 pub collect-requires : goal.collect-requires
 collect-requires c =
     let heats = c.args.heats.now in
-    let deductions = c.args.deductions.now in
-    (search rules, (((tt, tt), serves_from_places (YieldsList-from_zip (YieldsList-from_slice heats cc) (YieldsList-from_slice deductions cc)) (λ x q h. search rules)
-        (λ x k h is. let covered = at_place (λ (p : ℕ × ℕ). p.1 ≤ p.0) (zip heats deductions) (all_pairs Covered heats deductions c.requires) (x.0.now, x.1.now) k h is in search rules)), (tt, search rules)))
+    let deductions = c.args.deductions.now in (
+      search rules,
+      (
+        (
+          (tt, tt),
+          serves_from_places (YieldsList-from_zip (YieldsList-from_slice heats cc) (YieldsList-from_slice deductions cc)) (λ x q h. search rules)
+              (λ x k h is. let covered = at_place (λ (p : ℕ × ℕ). p.1 ≤ p.0) (zip heats deductions) (all_pairs Covered heats deductions c.requires) (x.0.now, x.1.now) k h is in search rules),
+        ),
+        (tt, search rules),
+      ),
+    )
 
 pub returns : goal.returns
 returns c =

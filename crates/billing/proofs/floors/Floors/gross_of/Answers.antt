@@ -11,9 +11,17 @@ pub collect-requires : goal.collect-requires
 collect-requires c =
     let rooms = c.args.rooms.now in
     let shares = c.args.shares.now in
-    let within = Among c.args.self in
-    (search rules, (((tt, tt), serves_from_places (YieldsList-from_zip (YieldsList-from_slice rooms cc) (YieldsList-from_slice shares cc)) (λ x q h. search rules)
-        (λ x k h is. let among = at_place (λ (p : CountedRoom × ℕ). within p.0) (zip rooms shares) (all_first within rooms shares c.requires.among) (x.0.now, x.1.now) k h is in search rules)), (tt, search rules)))
+    let within = Among c.args.self in (
+      search rules,
+      (
+        (
+          (tt, tt),
+          serves_from_places (YieldsList-from_zip (YieldsList-from_slice rooms cc) (YieldsList-from_slice shares cc)) (λ x q h. search rules)
+              (λ x k h is. let among = at_place (λ (p : CountedRoom × ℕ). within p.0) (zip rooms shares) (all_first within rooms shares c.requires.among) (x.0.now, x.1.now) k h is in search rules),
+        ),
+        (tt, search rules),
+      ),
+    )
 
 pub returns : goal.returns
 returns c =
