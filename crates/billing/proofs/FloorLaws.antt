@@ -1,17 +1,16 @@
 -- Floors, surcharges and excesses of the rooms that are read.
-use Rattle.std.proofs.Common.{◌≡◌, ℕ, ◌+◌, ◌-◌, ◌*◌, ◌/◌, ◌≤◌, List, [], ◌∷◌, Some, None, sum_by, sum, sym, refl, ap, ◌∙◌, ⊎_elim, mul-le-mul_right, mul-le-mul, div-mul-le_self, le_of_mul-le-mul_right, arith}
+use Rattle.std.proofs.Common.{◌≡◌, ℕ, ◌+◌, ◌*◌, ◌/◌, ◌≤◌, List, [], ◌∷◌, Some, None, sum_by, sum, sym, refl, ap, ◌∙◌, ⊎_elim, mul-le-mul_right, mul-le-mul, div-mul-le_self, le_of_mul-le-mul_right, arith}
 use native.Mathlib.Nat.{div-zero, div-le_of_le-mul}
 use Rattle.std.proofs.lemmas.List.Sums.{sum_by-cons, sum-map}
 use Rattle.std.proofs.lemmas.Bool.{cases_lt}
 use Rattle.billing.specs.declared.counting.Role.{Role}
-use Rattle.billing.specs.declared.counting.Role.TheVariants.{Read, Plain, Detached}
 use Rattle.billing.specs.declared.counting.CountedRoom.{CountedRoom}
 use Rattle.billing.specs.declared.floors.Floors.{Floors}
 use Rattle.billing.specs.Counting.{if_read, read_area, read_sum}
 use Rattle.billing.specs.Pots.{weights}
 use Rattle.billing.specs.Stated.{floor, surcharge, excess, surcharges, excesses, by_excess}
 use Rattle.billing.specs.Claims.{floor_by, surcharge_by}
-use Rattle.billing.proofs.PotLaws.{weight, weights_sum}
+use Rattle.billing.proofs.PotLaws.{weights_sum}
 use Rattle.billing.proofs.RoomLaws.{sums_le, sums_add}
 
 -- parts of a whole rounded down, of the rooms that are read

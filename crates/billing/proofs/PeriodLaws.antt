@@ -1,5 +1,5 @@
 -- An accepted period keeps the laws, under either method and any sharing rule.
-use Rattle.std.proofs.Common.{◌≡◌, ℕ, ◌+◌, ◌<◌, ◌≤◌, List, Some, None, Option, sym, ap, ◌∙◌, subst, arith}
+use Rattle.std.proofs.Common.{◌≡◌, ℕ, ◌+◌, ◌<◌, ◌≤◌, List, Some, None, Option, sym, subst, arith}
 use Rattle.std.proofs.lemmas.Bool.Decides.{nat_tests}
 use Rattle.sharing.specs.Rule.{Shares, Fair}
 use Rattle.house.specs.declared.method.Method.{Method}
@@ -9,9 +9,8 @@ use Rattle.billing.specs.declared.counting.CountedRoom.{CountedRoom}
 use Rattle.billing.specs.Counting.{plain_area, read_sum, pipe_sum}
 use Rattle.billing.specs.Remainder.{unread, claiming_area}
 use Rattle.billing.specs.Stated.{rest}
-use Rattle.billing.specs.Period.{given, unworkable, own_heats, common_shares, bills, Lawful, Billable, Laws}
+use Rattle.billing.specs.Period.{given, unworkable, bills, Lawful, Billable, Laws}
 use Rattle.billing.proofs.RoomLaws.{plain_counted}
-use Rattle.billing.proofs.BillLaws.{paired}
 use Rattle.billing.proofs.RemainderLaws.{remainder_laws}
 use Rattle.billing.proofs.StatedLaws.{stated_laws}
 

@@ -1,5 +1,5 @@
 -- What the sharing of a pot gives those with a claim to it.
-use Rattle.std.proofs.Common.{◌≡◌, ℕ, zero, suc, ◌+◌, ◌*◌, ◌<◌, ◌≤◌, List, [], ◌∷◌, map, length, replicate, Some, None, sum_by, sum, Option, sym, refl, ap, ◌∙◌, subst, ⊎_elim, mul-le-mul_right, lt_of_mul-lt-mul_right, arith}
+use Rattle.std.proofs.Common.{◌≡◌, ℕ, suc, ◌+◌, ◌*◌, ◌<◌, ◌≤◌, List, [], ◌∷◌, map, length, replicate, Some, None, sum_by, sum, Option, sym, refl, ap, ◌∙◌, subst, ⊎_elim, mul-le-mul_right, lt_of_mul-lt-mul_right, arith}
 use lib.ListN.{length-map}
 use Rattle.std.specs.List.{AllZip, AllByRecursion}
 use Rattle.std.proofs.ByRecursion.{All-from_get_or}
@@ -9,7 +9,7 @@ use Rattle.sharing.specs.Rule.{Shares, Fair, Near}
 use Rattle.sharing.specs.Totals.{sum_cons, entry_le_sum}
 use Rattle.sharing.proofs.RuleLaws.{shares_sum}
 use Rattle.billing.specs.Pots.{weights, put_back, pot_shares, Both}
-use Rattle.billing.proofs.Beside.{both_length, both_unmap}
+use Rattle.billing.proofs.Beside.{both_unmap}
 
 -- what a claim weighs
 abbrev pub weight : Option ℕ → ℕ

@@ -1,5 +1,5 @@
 -- The method Remainder keeps the laws of a period.
-use Rattle.std.proofs.Common.{◌≡◌, ℕ, ◌+◌, ◌-◌, ◌*◌, ◌/◌, ◌<◌, ◌≤◌, eqb, List, Some, None, Option, sym, refl, ap, ◌∙◌, subst, ⊎_elim, mul-div_cancel, arith}
+use Rattle.std.proofs.Common.{◌≡◌, ℕ, ◌+◌, ◌-◌, ◌*◌, ◌/◌, ◌<◌, ◌≤◌, List, Some, None, Option, sym, refl, ap, ◌∙◌, subst, ⊎_elim, mul-div_cancel, arith}
 use native.Mathlib.Nat.{div-zero}
 use Rattle.std.proofs.lemmas.Bool.{cases_lt}
 use Rattle.std.proofs.lemmas.Bool.Decides.{nat_tests}
@@ -15,7 +15,7 @@ use Rattle.billing.specs.Fraction.{Fraction, whole, over}
 use Rattle.billing.specs.Remainder.{unread, claiming_area, common_pot, plain_pot, own_heats, common_shares}
 use Rattle.billing.specs.Period.{bills, Lawful, Laws}
 use Rattle.billing.proofs.Beside.{both_weaker, become, sum_beside, sum_over}
-use Rattle.billing.proofs.PotLaws.{Portion, Falls, nothing}
+use Rattle.billing.proofs.PotLaws.{Portion, Falls}
 use Rattle.billing.proofs.FractionLaws.{Lies, lies_whole, part_lies, left_lies}
 use Rattle.billing.proofs.RoomLaws.{some_area, area_shares_fall, area_shares_total, plain_shares_fall, plain_shares_total}
 use Rattle.billing.proofs.BillLaws.{read_heat, Own, laws_hold}

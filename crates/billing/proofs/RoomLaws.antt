@@ -3,12 +3,10 @@ use Rattle.std.proofs.Common.{◌≡◌, ℕ, ◌+◌, ◌<◌, ◌≤◌, true,
 use Rattle.std.specs.List.{AllByRecursion}
 use Rattle.std.proofs.lemmas.List.Sums.{sum_by-cons}
 use Rattle.sharing.specs.Rule.{Shares, Fair}
-use Rattle.billing.specs.declared.counting.Role.{Role}
-use Rattle.billing.specs.declared.counting.Role.TheVariants.{Read, Plain, Detached}
 use Rattle.billing.specs.declared.counting.CountedRoom.{CountedRoom}
 use Rattle.billing.specs.Counting.{if_read, if_plain, all_area, plain_area, plain_count, read_area}
 use Rattle.billing.specs.Pots.{weights, pot_shares, by_area, plain_by_area, Both}
-use Rattle.billing.proofs.PotLaws.{weight, weights_sum, Portion, Falls, shares_fall, shares_total}
+use Rattle.billing.proofs.PotLaws.{weights_sum, Portion, Falls, shares_fall, shares_total}
 
 pub sums_le : {X : Type 0} (f g : X → ℕ) → ((x : X) → f x ≤ g x) → (xs : List X) → sum_by f xs ≤ sum_by g xs
 sums_le f g each [] = omega arith

@@ -1,4 +1,4 @@
-use Rattle.std.proofs.Common.{refl, sym, ◌∙◌}
+use Rattle.std.proofs.Common.{sym, ◌∙◌}
 use Rattle.std.proofs.iter.Next.{said}
 use Rattle.std.proofs.iter.runs.Made.{run_of_exit}
 use Rattle.billing.proofs.collecting.collect.Goals as goal
