@@ -58,11 +58,7 @@ lies_none up down amount n d a b zero-amount zero-d =
 
 -- a share of a pot is less than one unit from its exact part
 pub portion_lies : (pot all weight share : ℕ) → Portion pot all weight share → Lies 1 1 share (over (pot * weight) all)
-portion_lies pot all w s p =
-    ⊎_elim
-    (λ pos. lies_over 1 1 s (pot * w) all pos (omega (arith, (p.near pos).0)) (omega (arith, (p.near pos).1)))
-    (λ none. let z : all ≡ 0 = omega arith in lies_none 1 1 s (pot * w) all (omega arith) (omega arith) (p.none z) z)
-    (cases_lt 0 all)
+portion_lies pot all w s p = record { real = grind (arith, nat_tests); above = grind (arith, nat_tests); below = grind (arith, nat_tests) }
 
 -- a share of a pot that is itself a part rounded down: less than one unit above and two below
 pub part_lies : (n d all weight share : ℕ) → 0 < all → Portion (n / d) all weight share → Lies 1 2 share (over (n * weight) (d * all))

@@ -1,5 +1,5 @@
 -- What the sharing of a pot gives those with a claim to it.
-use Rattle.std.proofs.Common.{◌≡◌, ℕ, suc, ◌+◌, ◌*◌, ◌<◌, ◌≤◌, List, [], ◌∷◌, map, length, replicate, Some, None, sum_by, sum, Option, sym, refl, ap, ◌∙◌, subst, ⊎_elim, mul-le-mul_right, lt_of_mul-lt-mul_right, arith}
+use Rattle.std.proofs.Common.{◌≡◌, ℕ, suc, ◌+◌, ◌<◌, ◌≤◌, List, [], ◌∷◌, map, length, replicate, Some, None, sum_by, sum, Option, sym, refl, ap, ◌∙◌, subst, ⊎_elim, mul-le-mul_right, lt_of_mul-lt-mul_right, arith}
 use lib.ListN.{length-map}
 use Rattle.std.specs.List.{AllZip, AllByRecursion}
 use Rattle.std.proofs.ByRecursion.{All-from_get_or}
@@ -37,11 +37,7 @@ pub record Portion (pot all weight share : ℕ) : Type 0 where
 
 -- of a pot below the sum of the weights nobody gets more than its weight
 pub portion_le : (pot all weight share : ℕ) → pot ≤ all → Portion pot all weight share → share ≤ weight
-portion_le pot all w s le p =
-    ⊎_elim
-    (λ pos. let below : s * all < (w + 1) * all = omega (arith, (p.near pos).0, mul-le-mul_right w le) in omega (arith, lt_of_mul-lt-mul_right all below))
-    (λ none. omega (arith, p.none (omega arith)))
-    (cases_lt 0 all)
+portion_le pot all w s le p = grind (arith, mul-le-mul_right, lt_of_mul-lt-mul_right)
 
 -- and to a claim: to none, nothing
 abbrev pub Falls : (ℕ → ℕ → Type 0) → Option ℕ → ℕ → Type 0

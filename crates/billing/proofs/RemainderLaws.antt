@@ -1,5 +1,5 @@
 -- The method Remainder keeps the laws of a period.
-use Rattle.std.proofs.Common.{◌≡◌, ℕ, ◌+◌, ◌-◌, ◌*◌, ◌/◌, ◌<◌, ◌≤◌, List, Some, None, Option, sym, refl, ap, ◌∙◌, subst, ⊎_elim, mul-div_cancel, arith}
+use Rattle.std.proofs.Common.{◌≡◌, ℕ, ◌-◌, ◌*◌, ◌/◌, ◌<◌, ◌≤◌, List, Some, None, Option, sym, refl, ap, ◌∙◌, subst, ⊎_elim, mul-div_cancel, arith}
 use native.Mathlib.Nat.{div-zero}
 use Rattle.std.proofs.lemmas.Bool.{cases_lt}
 use Rattle.std.proofs.lemmas.Bool.Decides.{nat_tests}
@@ -22,13 +22,7 @@ use Rattle.billing.proofs.BillLaws.{read_heat, Own, laws_hold}
 
 module _ (common : ℕ) (rooms : List CountedRoom) (total : ℕ) where
   pub common_pot_le : common_pot common rooms total ≤ unread rooms total
-  common_pot_le =
-      let u = unread rooms total in
-      let d = claiming_area common rooms in
-      ⊎_elim
-      (λ pos. capped u common d (omega arith))
-      (λ none. omega (arith, ap (λ v. u * common / v) (let z : d ≡ 0 = omega arith in z), div-zero (u * common)))
-      (cases_lt 0 d)
+  common_pot_le = grind (arith, capped, div-zero)
 
   some_plain_pot : 0 < claiming_area common rooms → plain_pot common rooms total ≡ unread rooms total - common_pot common rooms total
   some_plain_pot pos = grind (arith, nat_tests)
@@ -75,12 +69,6 @@ module _ (common : ℕ) (rooms : List CountedRoom) (total : ℕ) (claimed : 0 < 
   own_lies Plain area s h = left_lies (unread rooms total) common (plain_area rooms) area s (subst (λ (v : ℕ). Portion v (plain_area rooms) area s) (plain_pot_is common rooms total claimed) h)
   own_lies (Detached t) area s h = subst (λ (v : ℕ). Lies 2 1 v (whole 0)) (sym h) (lies_whole 2 1 0 (omega arith) (omega arith))
 
-  own_sum : (role : Role) (area s : ℕ) → Plain_share role area s → if_read role (λ m. m) s ≡ if_read role (λ m. m) 0 + s
-  own_sum role area s h = grind arith
-
-  reading : (role : Role) (s : ℕ) → if_read role (λ _. if_read role (λ m. m) s) 0 ≡ if_read role (λ m. m) 0
-  reading role s = grind arith
-
   pub remainder_laws : (shares : Shares) → Fair shares → (q : Option ℕ) → Lawful (Remainder common) rooms → read_sum rooms ≤ total → Laws (Remainder common) rooms total q (bills shares (Remainder common) rooms total q)
   remainder_laws shares fair q lawful within =
       let p = plain_pot common rooms total in
@@ -100,10 +88,10 @@ module _ (common : ℕ) (rooms : List CountedRoom) (total : ℕ) (claimed : 0 < 
       rooms commons (area_shares_fall shares fair c rooms (λ _. area)))
       (omega (
         arith,
-        sum_beside Share own (λ r. if_read r.role (λ m. m) 0) (λ r s h. own_sum r.role r.area s h) rooms plain-shares falls,
+        sum_beside Share own (λ r. if_read r.role (λ m. m) 0) (λ r s h. grind arith) rooms plain-shares falls,
         plain_shares_total shares fair p rooms weighed,
         area_shares_total shares fair c rooms (λ _. area),
         plain_pot_is common rooms total claimed,
         common_pot_le common rooms total,
       ))
-      (sum_over read_heat own (λ r. if_read r.role (λ m. m) 0) (λ r s. reading r.role s) rooms plain-shares)
+      (sum_over read_heat own (λ r. if_read r.role (λ m. m) 0) (λ r s. grind arith) rooms plain-shares)
