@@ -10,4 +10,5 @@ pub mod PeriodLaws
 pub mod Claimants
 pub mod Counted
 pub mod Collected
+pub mod Shared
 pub mod HouseLaws
