@@ -1,6 +1,5 @@
 -- Lists side by side.
-use Rattle.std.proofs.Common.{◌≡◌, ℕ, suc, ◌+◌, ◌-◌, ◌<◌, List, [], ◌∷◌, map, length, get_or, drop, sum_by, sum, refl, ap, subst, arith}
-use Rattle.std.proofs.lemmas.List.{drop_more}
+use Rattle.std.proofs.Common.{◌≡◌, ℕ, suc, ◌+◌, ◌-◌, List, [], ◌∷◌, map, length, sum_by, sum, refl, ap, arith}
 use Rattle.std.proofs.lemmas.List.Sums.{sum_by-cons}
 use Rattle.sharing.specs.Totals.{sum_cons}
 use Rattle.billing.specs.Pots.{beside, Both}
@@ -31,11 +30,6 @@ module _ {X Y : Type 0} (R : X → Y → Type 0) where
   both_turned f [] (x ∷ xs) h = absurd h
   both_turned f (w ∷ ws) [] h = absurd h
   both_turned f (w ∷ ws) (x ∷ xs) (r, h) = (r, both_turned f ws xs h)
-
-  -- the entries at a place, and those after it
-  pub both_drop : (xs : List X) (ys : List Y) (i : ℕ) (d : X) (e : Y) → i < length xs → i < length ys → Both R (drop i xs) (drop i ys) → R (get_or xs i d) (get_or ys i e) × Both R (drop (i + 1) xs) (drop (i + 1) ys)
-  both_drop xs ys i d e h k both =
-      subst (λ (v : List Y). Both R (get_or xs i d ∷ drop (i + 1) xs) v) (drop_more ys i e k) (subst (λ (v : List X). Both R v (drop i ys)) (drop_more xs i d h) both)
 
 -- what holds of two lists beside a third, and so of the two
 pub both_through : {X Y Z : Type 0} (R : X → Y → Type 0) (S : X → Z → Type 0) (T : Y → Z → Type 0) → ((x : X) (y : Y) (z : Z) → R x y → S x z → T y z) → (xs : List X) (ys : List Y) (zs : List Z) → Both R xs ys → Both S xs zs → Both T ys zs
@@ -79,18 +73,16 @@ sum_less R S u v each (x ∷ xs) (m ∷ ms) (n ∷ ns) (r, h) (s, k) =
     let rec = sum_less R S u v each xs ms ns h k in
     omega (arith, sum_cons (u x (m - n)) (beside u xs (beside (λ m n. m - n) ms ns)), sum_cons n ns, sum_cons (v x m) (beside v xs ms), each x m n r s)
 
+pub beside_length : {X Y : Type 0} (f : X → ℕ → Y) (xs : List X) (ns : List ℕ) → length (beside f xs ns) ≡ length xs
+beside_length f [] ns = refl
+beside_length f (x ∷ xs) [] = ap suc (beside_length f xs [])
+beside_length f (x ∷ xs) (n ∷ ns) = ap suc (beside_length f xs ns)
+
 pub beside_second : {X : Type 0} (xs : List X) (ns : List ℕ) → length ns ≡ length xs → beside (λ x n. n) xs ns ≡ ns
 beside_second [] [] e = refl
 beside_second [] (n ∷ ns) e = absurd (omega arith)
 beside_second (x ∷ xs) [] e = absurd (omega arith)
 beside_second (x ∷ xs) (n ∷ ns) e = ap (λ (v : List ℕ). n ∷ v) (beside_second xs ns (omega arith))
-
--- two lists of numbers, the other way round
-pub beside_turned : (f : ℕ → ℕ → ℕ) (xs ys : List ℕ) → length xs ≡ length ys → beside (λ y x. f x y) ys xs ≡ beside f xs ys
-beside_turned f [] [] e = refl
-beside_turned f [] (y ∷ ys) e = absurd (omega arith)
-beside_turned f (x ∷ xs) [] e = absurd (omega arith)
-beside_turned f (x ∷ xs) (y ∷ ys) e = ap (λ (v : List ℕ). f x y ∷ v) (beside_turned f xs ys (omega arith))
 
 -- a figure of each entry that the number beside it does not change
 pub sum_over : {X : Type 0} (u f : X → ℕ → ℕ) (g : X → ℕ) → ((x : X) (n : ℕ) → u x (f x n) ≡ g x) → (xs : List X) (ns : List ℕ) → sum (beside u xs (beside f xs ns)) ≡ sum_by g xs

@@ -3,23 +3,24 @@ use Rattle.std.proofs.Common.{◌≡◌, ℕ, ◌+◌, ◌≤◌, List, [], ◌�
 use Rattle.std.proofs.lemmas.List.Sums.{sum_by-cons}
 use Rattle.sharing.specs.Totals.{sum_cons}
 use Rattle.house.specs.declared.method.Method.{Method}
+use Rattle.billing.specs.declared.bill.Bill.{Bill}
 use Rattle.billing.specs.declared.counting.CountedRoom.{CountedRoom}
 use Rattle.billing.specs.Counting.{if_read, read_sum}
 use Rattle.billing.specs.Pots.{beside, Both}
 use Rattle.billing.specs.Fraction.{Fraction, Within, plus}
-use Rattle.billing.specs.Period.{exact_amounts, figures, floor, read_heats, Laws}
+use Rattle.billing.specs.Period.{bill, exact_amounts, figures, floor, read_heats, Laws}
 use Rattle.billing.proofs.Beside.{both_length, both_turned, both_weaker, meet}
 use Rattle.billing.proofs.FractionLaws.{Lies, lies_plus, lies_within}
 
-abbrev pub paired : List ℕ → List ℕ → List (ℕ × ℕ)
-paired owns commons = beside (λ own common. (own, common)) owns commons
+abbrev pub paired : List ℕ → List ℕ → List Bill
+paired owns commons = beside bill owns commons
 
 sum_paired : (owns commons : List ℕ) → length commons ≡ length owns → sum_by figures (paired owns commons) ≡ sum owns + sum commons
 sum_paired [] [] e = refl
 sum_paired [] (c ∷ cs) e = absurd (omega arith)
 sum_paired (o ∷ os) [] e = absurd (omega arith)
 sum_paired (o ∷ os) (c ∷ cs) e =
-    omega (arith, sum_by-cons figures (o, c) (paired os cs), sum_cons o os, sum_cons c cs, sum_paired os cs (omega arith))
+    omega (arith, sum_by-cons figures (bill o c) (paired os cs), sum_cons o os, sum_cons c cs, sum_paired os cs (omega arith))
 
 -- the own heat of a room that is read
 abbrev pub read_heat : CountedRoom → ℕ → ℕ
@@ -45,18 +46,18 @@ module _ (method : Method) (rooms : List CountedRoom) (total : ℕ) (q : Option 
   laws_hold a b c d owns commons up down os cs whole reads =
       let Mine : CountedRoom → ℕ → Type 0 = λ r o. Own a b (floor method rooms r) o (exact_own r) in
       let Theirs : CountedRoom → ℕ → Type 0 = λ r s. Lies c d s (exact_common r) in
-      let Near : ℕ × ℕ → Fraction → Type 0 = λ bill x. Within 3 (figures bill) x in
-      let Bill : CountedRoom → ℕ × ℕ → Type 0 = λ r bill. Near bill (exact_bill r) × (floor method rooms r ≤ bill.0) in
+      let Near : Bill → Fraction → Type 0 = λ bill x. Within 3 (figures bill) x in
+      let Billed : CountedRoom → Bill → Type 0 = λ r bill. Near bill (exact_bill r) × (floor method rooms r ≤ bill.own) in
       let bills = paired owns commons in
-      let each : Both Bill rooms bills =
-      meet Mine Theirs Bill (λ o s. (o, s)) (λ r o s h k. (lies_within (a + c) (b + d) 3 (o + s) (exact_bill r) up down (lies_plus a b c d o s (exact_own r) (exact_common r) h.near k), h.enough)) rooms owns commons os cs in
+      let each : Both Billed rooms bills =
+      meet Mine Theirs Billed bill (λ r o s h k. (lies_within (a + c) (b + d) 3 (o + s) (exact_bill r) up down (lies_plus a b c d o s (exact_own r) (exact_common r) h.near k), h.enough)) rooms owns commons os cs in
       let n = both_length Mine rooms owns os in
       let m : length commons ≡ length owns = both_length Theirs rooms commons cs ∙ sym n in
       record {
-        long = both_length Bill rooms bills each;
+        long = both_length Billed rooms bills each;
         closes = sum_paired owns commons m ∙ whole;
         near = subst (λ (v : List Fraction). Both Near bills v) (sym exact)
-            (both_turned Near exact_bill rooms bills (both_weaker Bill (λ r bill. Near bill (exact_bill r)) (λ r bill h. h.0) rooms bills each));
-        floors = both_weaker Bill (λ r (bill : ℕ × ℕ). floor method rooms r ≤ bill.0) (λ r bill h. h.1) rooms bills each;
+            (both_turned Near exact_bill rooms bills (both_weaker Billed (λ r bill. Near bill (exact_bill r)) (λ r bill h. h.0) rooms bills each));
+        floors = both_weaker Billed (λ r (bill : Bill). floor method rooms r ≤ bill.own) (λ r bill h. h.1) rooms bills each;
         readings = read_paired rooms owns commons n m ∙ reads;
       }

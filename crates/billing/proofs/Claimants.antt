@@ -1,29 +1,31 @@
 -- Every pot of a period that can be billed is within the limits, and has a claimant if it holds anything.
-use Rattle.std.proofs.Common.{◌≡◌, ℕ, ◌+◌, ◌-◌, ◌*◌, ◌/◌, ◌<◌, ◌≤◌, cond, eqb, List, map, length, sum, Option, sym, ap, ◌∙◌, subst, arith}
+use Rattle.std.proofs.Common.{◌≡◌, ℕ, ◌+◌, ◌-◌, ◌<◌, ◌≤◌, List, map, length, sum, Some, None, Option, sym, ◌∙◌, arith}
 use lib.ListN.{length-map}
 use Rattle.std.specs.List.{AllByRecursion}
 use Rattle.std.proofs.ByRecursion.{All-from_get_or}
 use Rattle.std.proofs.lemmas.List.Sums.{get_or-le-sum_by}
 use Rattle.sharing.specs.Rule.{Shares, Fair}
 use Rattle.house.specs.declared.method.Method.{Method}
-use Rattle.house.specs.declared.method.Method.TheVariants.{Remainder, Stated}
+use Rattle.house.specs.declared.method.Method.TheVariants as methods
 use Rattle.billing.specs.declared.counting.Role.TheVariants.{Plain}
 use Rattle.billing.specs.declared.counting.CountedRoom.{CountedRoom}
-use Rattle.billing.specs.declared.floors.Floors.{Floors}
-use Rattle.billing.specs.declared.remainder.Unread.{Unread}
-use Rattle.billing.specs.declared.stated.Figures.{Figures}
-use Rattle.billing.specs.declared.claims.Basis.TheVariants.{Excess}
+use Rattle.billing.specs.declared.remainder.Remainder.{Remainder}
+use Rattle.billing.specs.declared.stated.Stated.{Stated}
 use Rattle.billing.specs.Counting.{if_read, all_area, plain_area, read_sum, pipe_sum}
 use Rattle.billing.specs.Pots.{weights, pot_shares, by_area, plain_by_area, Both, Shareable}
-use Rattle.billing.specs.Remainder.{unread, claiming_area, common_pot, plain_pot}
-use Rattle.billing.specs.Stated.{common_figure, rest, surcharges, excesses, by_excess, gross_heats, deductions}
-use Rattle.billing.specs.Claims.{floors, surcharge_by, claims, Floored, Among}
+use Rattle.billing.specs.Remainder.{common_pot, plain_pot}
+use Rattle.billing.specs.Stated.{common_figure, rest, gross, surcharge, surcharges, excesses, by_excess, gross_heats, deductions}
+use Rattle.billing.specs.Remainder as remainder
+use Rattle.billing.specs.Stated as stated
+use Rattle.billing.specs.Claims.{floors, Floored, Among}
 use Rattle.billing.specs.Period.{Billable}
+use Rattle.billing.proofs.Beside.{beside_length}
+use Rattle.billing.proofs.PotLaws.{shares_length}
 use Rattle.billing.proofs.RoomLaws.{areas_sum, plain_areas_sum, plain_le_all, read_le_all, some_area}
 use Rattle.billing.proofs.RemainderLaws.{common_pot_le, plain_pot_le, plain_weighed}
 use Rattle.billing.proofs.FloorLaws.{surcharges_le, excesses_le, excess_weights}
 use Rattle.billing.proofs.StatedLaws.{figures_sum, deductions_covered}
-use Rattle.billing.proofs.PeriodLaws.{rest_claimed}
+use Rattle.billing.proofs.PeriodLaws.{Rest_claimed, rest_claimed}
 
 module _ {X : Type 0} (pot all : ℕ) (claim : X → Option ℕ) (xs : List X) where
   shareable : length xs ≤ 256 → sum (weights (map claim xs)) ≡ all → pot ≤ 100000000 → all ≤ 100000000 → (0 < pot → 0 < all) → Shareable pot (map claim xs)
@@ -41,74 +43,69 @@ module _ (method : Method) (rooms : List CountedRoom) (total : ℕ) (q : Option 
   plain_shareable : (0 < pot → 0 < plain_area rooms) → Shareable pot (plain_by_area rooms)
   plain_shareable weighed = shareable pot (plain_area rooms) _ rooms b.few (plain_areas_sum rooms) (omega (arith, b.small)) (omega (arith, b.areas, plain_le_all rooms)) weighed
 
-module _ (common : ℕ) (rooms : List CountedRoom) (total : ℕ) (q : Option ℕ) (b : Billable (Remainder common) rooms total q) where
-  pub common_pot_shareable : Shareable (common_pot common rooms total) (by_area rooms)
-  common_pot_shareable = by_area_shareable (Remainder common) rooms total q b (common_pot common rooms total) (omega (arith, common_pot_le common rooms total))
+-- of a period under the method Remainder
+module _ (r : Remainder) where
+  pub common_pot_shareable : Shareable (common_pot r.common_area r.rooms.now r.total) (by_area r.rooms.now)
+  common_pot_shareable = by_area_shareable (methods.Remainder r.common_area) r.rooms.now r.total None r.billable _ (omega (arith, common_pot_le r.common_area r.rooms.now r.total))
 
-  pub plain_pot_shareable : Shareable (plain_pot common rooms total) (plain_by_area rooms)
-  plain_pot_shareable = plain_shareable (Remainder common) rooms total q b (plain_pot common rooms total) (omega (arith, plain_pot_le common rooms total)) (plain_weighed common rooms total)
+  pub plain_pot_shareable : Shareable (plain_pot r.common_area r.rooms.now r.total) (plain_by_area r.rooms.now)
+  plain_pot_shareable =
+      plain_shareable (methods.Remainder r.common_area) r.rooms.now r.total None r.billable _ (omega (arith, plain_pot_le r.common_area r.rooms.now r.total)) (plain_weighed r.common_area r.rooms.now r.total)
 
-  -- the same by what the code hands on
-  module _ (u : Unread) (is : u ≡ record { left = unread rooms total; common = common; claiming = claiming_area common rooms }) (pot : ℕ) where
-    pub common_pot_by : pot ≡ u.left * u.common / u.claiming → Shareable pot (by_area rooms)
-    common_pot_by e = subst (λ (v : ℕ). Shareable v (by_area rooms)) (sym (e ∙ ap (λ (u : Unread). u.left * u.common / u.claiming) is)) common_pot_shareable
+  -- there is one own heat and one common share for each room
+  pub remainder_long : (shares : Shares) → length (remainder.common_shares shares r.common_area r.rooms.now r.total) ≡ length (remainder.own_heats shares r.common_area r.rooms.now r.total)
+  remainder_long shares =
+      shares_length shares (common_pot r.common_area r.rooms.now r.total) (λ (r : CountedRoom). Some r.area) r.rooms.now
+      ∙ sym (beside_length remainder.own_heat r.rooms.now (pot_shares shares (plain_pot r.common_area r.rooms.now r.total) (plain_by_area r.rooms.now)))
 
-    pub plain_pot_by : pot ≡ cond (eqb u.claiming 0) 0 (u.left - u.left * u.common / u.claiming) → Shareable pot (plain_by_area rooms)
-    plain_pot_by e = subst (λ (v : ℕ). Shareable v (plain_by_area rooms)) (sym (e ∙ ap (λ (u : Unread). cond (eqb u.claiming 0) 0 (u.left - u.left * u.common / u.claiming)) is)) plain_pot_shareable
+-- of a period under the method Stated
+module _ (s : Stated) where
+  abbrev rooms : List CountedRoom
+  rooms = s.rooms.now
 
-module _ (percent : ℕ) (rooms : List CountedRoom) (total : ℕ) (q : Option ℕ) (b : Billable (Stated percent) rooms total q) where
-  whole : read_sum rooms + pipe_sum rooms + rest rooms total q + common_figure rooms total q ≡ total
-  whole = figures_sum rooms total q (rest_claimed percent rooms total q b.lawful b.accepted).within
+  claimed : Rest_claimed rooms s.total s.common
+  claimed = rest_claimed s.floor_percent rooms s.total s.common s.billable.lawful s.billable.accepted
 
-  pub common_figure_shareable : Shareable (common_figure rooms total q) (by_area rooms)
-  common_figure_shareable = by_area_shareable (Stated percent) rooms total q b (common_figure rooms total q) (omega (arith, whole))
+  whole : read_sum rooms + pipe_sum rooms + rest rooms s.total s.common + common_figure rooms s.total s.common ≡ s.total
+  whole = figures_sum rooms s.total s.common claimed.within
 
-  pub rest_shareable : Shareable (rest rooms total q) (plain_by_area rooms)
-  rest_shareable = plain_shareable (Stated percent) rooms total q b (rest rooms total q) (omega (arith, whole)) (rest_claimed percent rooms total q b.lawful b.accepted).claimed
+  pub common_figure_shareable : Shareable (common_figure rooms s.total s.common) (by_area rooms)
+  common_figure_shareable = by_area_shareable (methods.Stated s.floor_percent) rooms s.total s.common s.billable _ (omega (arith, whole))
 
-  -- the same by what the code hands on
-  module _ (f : Figures) (is : f ≡ record { common = common_figure rooms total q; rest = rest rooms total q }) where
-    pub common_figure_by : Shareable f.common (by_area rooms)
-    common_figure_by = subst (λ (f : Figures). Shareable f.common (by_area rooms)) (sym is) common_figure_shareable
+  pub rest_shareable : Shareable (rest rooms s.total s.common) (plain_by_area rooms)
+  rest_shareable = plain_shareable (methods.Stated s.floor_percent) rooms s.total s.common s.billable _ (omega (arith, whole)) claimed.claimed
 
-    pub rest_by : Shareable f.rest (plain_by_area rooms)
-    rest_by = subst (λ (f : Figures). Shareable f.rest (plain_by_area rooms)) (sym is) rest_shareable
+  pub floored : Floored s.floor_percent rooms
+  floored = record {
+    few = s.billable.few;
+    low = s.billable.lawful.percent;
+    read = omega (arith, s.billable.small, whole);
+    area = omega (arith, s.billable.areas, read_le_all rooms);
+  }
 
-  pub floored : Floored percent rooms
-  floored = record { few = b.few; low = b.lawful.percent; read = omega (arith, b.small, whole); area = omega (arith, b.areas, read_le_all rooms) }
-
-  -- no deduction passes what its room pays before it
-  pub covered_by : (shares : Shares) → Fair shares → (heats less : List ℕ) → heats ≡ gross_heats shares percent rooms total q → less ≡ deductions shares percent rooms → Both (λ (g d : ℕ). d ≤ g) heats less
-  covered_by shares fair heats less e f =
-      subst (λ (v : List ℕ). Both (λ (g d : ℕ). d ≤ g) v less) (sym e)
-      (subst (λ (v : List ℕ). Both (λ (g d : ℕ). d ≤ g) (gross_heats shares percent rooms total q) v) (sym f)
-      (deductions_covered percent rooms total q b.lawful.percent shares fair (rest_claimed percent rooms total q b.lawful b.accepted).claimed))
-
-module _ (percent : ℕ) (rooms : List CountedRoom) (f : Floored percent rooms) where
-  pub surcharges_shareable : Shareable (surcharges percent rooms) (by_excess percent rooms)
+  pub surcharges_shareable : Shareable (surcharges s.floor_percent rooms) (by_excess s.floor_percent rooms)
   surcharges_shareable =
-      let covered = surcharges_le percent rooms f.low in
-      let within = excesses_le percent rooms in
-      shareable (surcharges percent rooms) (excesses percent rooms) _ rooms f.few (excess_weights percent rooms) (omega (arith, f.read)) (omega (arith, f.read)) (λ some. omega arith)
+      let covered = surcharges_le s.floor_percent rooms floored.low in
+      let within = excesses_le s.floor_percent rooms in
+      shareable _ _ _ rooms floored.few (excess_weights s.floor_percent rooms) (omega (arith, floored.read)) (omega (arith, floored.read)) (λ some. omega arith)
 
-  all_among : AllByRecursion (Among (floors percent rooms)) rooms
-  all_among = All-from_get_or (Among (floors percent rooms)) rooms (record { area = 0; role = Plain }) (λ i h. record {
-    low = f.low;
-    small = f.read;
+  pub all_among : AllByRecursion (Among (floors s.floor_percent rooms)) rooms
+  all_among = All-from_get_or (Among (floors s.floor_percent rooms)) rooms (record { area = 0; role = Plain }) (λ i h. record {
+    low = floored.low;
+    small = floored.read;
     part = get_or-le-sum_by (λ (r : CountedRoom). if_read r.role (λ _. r.area) 0) rooms i _ h;
     read = get_or-le-sum_by (λ (r : CountedRoom). if_read r.role (λ m. m) 0) rooms i _ h;
   })
 
-  -- the same by what the code hands on
-  pub among_by : (by : Floors) → by ≡ floors percent rooms → AllByRecursion (Among by) rooms
-  among_by by is = subst (λ (v : Floors). AllByRecursion (Among v) rooms) (sym is) all_among
+  -- no deduction passes what its room pays before it
+  pub covered : (shares : Shares) → Fair shares → Both (λ (g d : ℕ). d ≤ g) (gross_heats shares s.floor_percent rooms s.total s.common) (deductions shares s.floor_percent rooms)
+  covered shares fair = deductions_covered s.floor_percent rooms s.total s.common floored.low shares fair claimed.claimed
 
-  module _ (by : Floors) (is : by ≡ floors percent rooms) (pot : ℕ) (sums : pot ≡ sum (map (surcharge_by by) rooms)) where
-    pot_is : pot ≡ surcharges percent rooms
-    pot_is = sums ∙ ap (λ v. sum (map (surcharge_by v) rooms)) is
+  pub gross_long : (shares : Shares) → length (gross_heats shares s.floor_percent rooms s.total s.common) ≡ length rooms
+  gross_long shares =
+      beside_length (λ (r : CountedRoom) share. gross (surcharge s.floor_percent rooms r) r.role share) rooms (pot_shares shares (rest rooms s.total s.common) (plain_by_area rooms))
 
-    pub excess_shareable : Shareable pot (claims (Excess by) rooms)
-    excess_shareable = subst (λ (v : ℕ). Shareable v (claims (Excess by) rooms)) (sym pot_is) (subst (λ (v : Floors). Shareable (surcharges percent rooms) (claims (Excess v) rooms)) (sym is) surcharges_shareable)
-
-    pub excess_shares : (shares : Shares) → pot_shares shares pot (claims (Excess by) rooms) ≡ deductions shares percent rooms
-    excess_shares shares = ap (λ v. pot_shares shares v (claims (Excess by) rooms)) pot_is ∙ ap (λ v. pot_shares shares (surcharges percent rooms) (claims (Excess v) rooms)) is
+  pub stated_long : (shares : Shares) → length (stated.common_shares shares rooms s.total s.common) ≡ length (stated.own_heats shares s.floor_percent rooms s.total s.common)
+  stated_long shares =
+      shares_length shares (common_figure rooms s.total s.common) (λ (r : CountedRoom). Some r.area) rooms
+      ∙ sym (beside_length (λ heat deduction. heat - deduction) (gross_heats shares s.floor_percent rooms s.total s.common) (deductions shares s.floor_percent rooms) ∙ gross_long shares)

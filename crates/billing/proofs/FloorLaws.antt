@@ -1,17 +1,16 @@
 -- Floors, surcharges and excesses of the rooms that are read.
-use Rattle.std.proofs.Common.{◌≡◌, ℕ, ◌+◌, ◌-◌, ◌*◌, ◌/◌, ◌≤◌, List, [], ◌∷◌, Some, None, sum_by, sum, sym, refl, ap, ◌∙◌, ⊎_elim, mul-le-mul_right, mul-le-mul, div-mul-le_self, le_of_mul-le-mul_right, arith}
+use Rattle.std.proofs.Common.{◌≡◌, ℕ, ◌+◌, ◌*◌, ◌/◌, ◌≤◌, List, [], ◌∷◌, Some, None, sum_by, sum, sym, refl, ap, ◌∙◌, ⊎_elim, mul-le-mul_right, mul-le-mul, div-mul-le_self, le_of_mul-le-mul_right, arith}
 use native.Mathlib.Nat.{div-zero, div-le_of_le-mul}
 use Rattle.std.proofs.lemmas.List.Sums.{sum_by-cons, sum-map}
 use Rattle.std.proofs.lemmas.Bool.{cases_lt}
 use Rattle.billing.specs.declared.counting.Role.{Role}
-use Rattle.billing.specs.declared.counting.Role.TheVariants.{Read, Plain, Detached}
 use Rattle.billing.specs.declared.counting.CountedRoom.{CountedRoom}
 use Rattle.billing.specs.declared.floors.Floors.{Floors}
 use Rattle.billing.specs.Counting.{if_read, read_area, read_sum}
 use Rattle.billing.specs.Pots.{weights}
 use Rattle.billing.specs.Stated.{floor, surcharge, excess, surcharges, excesses, by_excess}
 use Rattle.billing.specs.Claims.{floor_by, surcharge_by}
-use Rattle.billing.proofs.PotLaws.{weight, weights_sum}
+use Rattle.billing.proofs.PotLaws.{weights_sum}
 use Rattle.billing.proofs.RoomLaws.{sums_le, sums_add}
 
 -- parts of a whole rounded down, of the rooms that are read
@@ -20,9 +19,7 @@ module _ (n d : ℕ) where
   part r = if_read r.role (λ _. n * r.area / d) 0
 
   part_times : (role : Role) (area : ℕ) → if_read role (λ _. n * area / d) 0 * d ≤ n * if_read role (λ _. area) 0
-  part_times (Read m) area = div-mul-le_self (n * area) d
-  part_times Plain area = omega arith
-  part_times (Detached t) area = omega arith
+  part_times role area = grind (arith, div-mul-le_self)
 
   parts_times : (rooms : List CountedRoom) → sum_by part rooms * d ≤ n * read_area rooms
   parts_times [] = omega arith
@@ -31,9 +28,7 @@ module _ (n d : ℕ) where
       omega (arith, ap (λ v. v * d) (sum_by-cons part r rooms), ap (λ v. n * v) (sum_by-cons area r rooms), part_times r.role r.area, parts_times rooms)
 
   no_part : d ≡ 0 → (role : Role) (area : ℕ) → if_read role (λ _. n * area / d) 0 ≡ 0
-  no_part z (Read m) area = ap (λ v. n * area / v) z ∙ div-zero (n * area)
-  no_part z Plain area = refl
-  no_part z (Detached t) area = refl
+  no_part z role area = grind (arith, div-zero)
 
   no_parts : d ≡ 0 → (rooms : List CountedRoom) → sum_by part rooms ≡ 0
   no_parts z [] = refl
@@ -57,12 +52,7 @@ module _ (percent : ℕ) (rooms : List CountedRoom) where
       (cases_lt 0 d)
 
   balance : (r : CountedRoom) → reading r + surcharge percent rooms r ≡ floor_of r + excess percent rooms r
-  balance r = by r.role (floor percent rooms r.area)
-    where
-      by : (role : Role) (f : ℕ) → if_read role (λ m. m) 0 + if_read role (λ m. f - m) 0 ≡ if_read role (λ _. f) 0 + if_read role (λ m. m - f) 0
-      by (Read m) f = omega arith
-      by Plain f = refl
-      by (Detached t) f = refl
+  balance r = grind arith
 
   -- what the floors add is covered by what lies above them
   pub surcharges_le : percent ≤ 100 → surcharges percent rooms ≤ excesses percent rooms
@@ -78,20 +68,10 @@ module _ (percent : ℕ) (rooms : List CountedRoom) where
       )
 
   pub excesses_le : excesses percent rooms ≤ read_sum rooms
-  excesses_le = omega (arith, sum-map (excess percent rooms) rooms, sums_le (excess percent rooms) reading (λ r. by r.role (floor percent rooms r.area)) rooms)
-    where
-      by : (role : Role) (f : ℕ) → if_read role (λ m. m - f) 0 ≤ if_read role (λ m. m) 0
-      by (Read m) f = omega arith
-      by Plain f = omega arith
-      by (Detached t) f = omega arith
+  excesses_le = omega (arith, sum-map (excess percent rooms) rooms, sums_le (excess percent rooms) reading (λ r. grind arith) rooms)
 
   pub excess_weights : sum (weights (by_excess percent rooms)) ≡ excesses percent rooms
-  excess_weights = weights_sum (λ (r : CountedRoom). if_read r.role (λ _. Some (excess percent rooms r)) None) (excess percent rooms) (λ r. by r.role (floor percent rooms r.area)) rooms ∙ sym (sum-map (excess percent rooms) rooms)
-    where
-      by : (role : Role) (f : ℕ) → weight (if_read role (λ _. Some (if_read role (λ m. m - f) 0)) None) ≡ if_read role (λ m. m - f) 0
-      by (Read m) f = refl
-      by Plain f = refl
-      by (Detached t) f = refl
+  excess_weights = weights_sum (λ (r : CountedRoom). if_read r.role (λ _. Some (excess percent rooms r)) None) (excess percent rooms) (λ r. grind arith) rooms ∙ sym (sum-map (excess percent rooms) rooms)
 
 -- no floor passes all readings, so no surcharge does
 module _ (f : Floors) (low : f.percent ≤ 100) where
@@ -101,9 +81,4 @@ module _ (f : Floors) (low : f.percent ≤ 100) where
       (omega (arith, mul-le-mul (mul-le-mul_right f.readings low) part))
 
   pub surcharge_by_le : (r : CountedRoom) → if_read r.role (λ _. r.area) 0 ≤ f.area → surcharge_by f r ≤ f.readings
-  surcharge_by_le r part = by r.role part
-    where
-      by : (role : Role) → if_read role (λ _. r.area) 0 ≤ f.area → if_read role (λ m. floor_by f r.area - m) 0 ≤ f.readings
-      by (Read m) part = omega (arith, floor_le r.area part)
-      by Plain part = omega arith
-      by (Detached t) part = omega arith
+  surcharge_by_le r part = grind (arith, floor_le)

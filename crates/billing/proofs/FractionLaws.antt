@@ -1,7 +1,8 @@
 -- Amounts beside exact ones: how far above and how far below they lie.
-use Rattle.std.proofs.Common.{◌≡◌, ℕ, ◌+◌, ◌-◌, ◌*◌, ◌/◌, ◌%◌, ◌<◌, ◌≤◌, eqb, sym, ap, ◌∙◌, subst, ⊎_elim, mul-le-mul_right, mod-lt, lt_of_mul-lt-mul_right, mul-le-mul_left, mul-lt-mul_of_pos_right, mul-pos, div-add-mod', arith}
+use Rattle.std.proofs.Common.{◌≡◌, ℕ, ◌+◌, ◌-◌, ◌*◌, ◌/◌, ◌%◌, ◌<◌, ◌≤◌, ap, ◌∙◌, ⊎_elim, mul-le-mul_right, mod-lt, lt_of_mul-lt-mul_right, mul-le-mul_left, mul-lt-mul_of_pos_right, mul-pos, div-add-mod', arith}
 use native.Mathlib.Nat.{div-zero}
-use Rattle.std.proofs.lemmas.Bool.{cases_lt, cond-false, ne_eqb}
+use Rattle.std.proofs.lemmas.Bool.{cases_lt}
+use Rattle.std.proofs.lemmas.Bool.Decides.{nat_tests}
 use Rattle.billing.specs.Fraction.{Fraction, whole, over, plus, minus, Within}
 use Rattle.sharing.specs.Parts.{capped}
 use Rattle.billing.proofs.PotLaws.{Portion}
@@ -40,32 +41,24 @@ lies_minus a b g d x le part p =
 
 -- a quotient over a number above 0
 pub over_some : (n d : ℕ) → 0 < d → over n d ≡ record { top = n; bottom = d }
-over_some n d pos = cond-false (eqb d 0) (whole 0) (record { top = n; bottom = d }) (ne_eqb d 0 (omega arith))
+over_some n d pos = grind (arith, nat_tests)
 
 module _ (up down amount n d : ℕ) where
   pub lies_over : 0 < d → amount * d < n + up * d → n < amount * d + down * d → Lies up down amount (over n d)
-  lies_over pos a b = subst (Lies up down amount) (sym (over_some n d pos)) (record { real = pos; above = a; below = b })
+  lies_over pos a b = record { real = grind (arith, nat_tests); above = grind (arith, nat_tests); below = grind (arith, nat_tests) }
 
 -- a quotient is at most g where its top is at most g times its bottom
 pub over_le : (n d g : ℕ) → n ≤ g * d → (over n d).top ≤ g * (over n d).bottom
-over_le n d g le =
-    ⊎_elim
-    (λ pos. subst (λ (x : Fraction). x.top ≤ g * x.bottom) (sym (over_some n d pos)) le)
-    (λ none. subst (λ (v : ℕ). (over n v).top ≤ g * (over n v).bottom) (let z : 0 ≡ d = omega arith in z) (omega arith))
-    (cases_lt 0 d)
+over_le n d g le = grind (arith, nat_tests)
 
 -- nothing is one unit from nothing, and more
 pub lies_none : (up down amount n d : ℕ) → 0 < up → 0 < down → amount ≡ 0 → d ≡ 0 → Lies up down amount (over n d)
 lies_none up down amount n d a b zero-amount zero-d =
-    subst (λ (v : ℕ). Lies up down amount (over n v)) (sym zero-d) (record { real = omega arith; above = omega arith; below = omega arith })
+    record { real = grind (arith, nat_tests); above = grind (arith, nat_tests); below = grind (arith, nat_tests) }
 
 -- a share of a pot is less than one unit from its exact part
 pub portion_lies : (pot all weight share : ℕ) → Portion pot all weight share → Lies 1 1 share (over (pot * weight) all)
-portion_lies pot all w s p =
-    ⊎_elim
-    (λ pos. lies_over 1 1 s (pot * w) all pos (omega (arith, (p.near pos).0)) (omega (arith, (p.near pos).1)))
-    (λ none. let z : all ≡ 0 = omega arith in lies_none 1 1 s (pot * w) all (omega arith) (omega arith) (p.none z) z)
-    (cases_lt 0 all)
+portion_lies pot all w s p = record { real = grind (arith, nat_tests); above = grind (arith, nat_tests); below = grind (arith, nat_tests) }
 
 -- a share of a pot that is itself a part rounded down: less than one unit above and two below
 pub part_lies : (n d all weight share : ℕ) → 0 < all → Portion (n / d) all weight share → Lies 1 2 share (over (n * weight) (d * all))

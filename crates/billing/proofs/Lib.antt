@@ -8,8 +8,7 @@ pub mod FloorLaws
 pub mod StatedLaws
 pub mod PeriodLaws
 pub mod Claimants
-pub mod Written
-pub mod Summed
-pub mod Gathered
 pub mod Counted
+pub mod Collected
+pub mod Shared
 pub mod HouseLaws

@@ -1,16 +1,16 @@
 -- An accepted period keeps the laws, under either method and any sharing rule.
-use Rattle.std.proofs.Common.{◌≡◌, ℕ, ◌+◌, ◌<◌, ◌≤◌, List, Some, None, Option, sym, ap, ◌∙◌, subst, arith}
+use Rattle.std.proofs.Common.{◌≡◌, ℕ, ◌+◌, ◌<◌, ◌≤◌, List, Some, None, Option, sym, subst, arith}
 use Rattle.std.proofs.lemmas.Bool.Decides.{nat_tests}
 use Rattle.sharing.specs.Rule.{Shares, Fair}
 use Rattle.house.specs.declared.method.Method.{Method}
 use Rattle.house.specs.declared.method.Method.TheVariants.{Remainder, Stated}
+use Rattle.billing.specs.declared.bill.Bill.{Bill}
 use Rattle.billing.specs.declared.counting.CountedRoom.{CountedRoom}
 use Rattle.billing.specs.Counting.{plain_area, read_sum, pipe_sum}
 use Rattle.billing.specs.Remainder.{unread, claiming_area}
 use Rattle.billing.specs.Stated.{rest}
-use Rattle.billing.specs.Period.{given, unworkable, own_heats, common_shares, bills, Lawful, Billable, Laws}
+use Rattle.billing.specs.Period.{given, unworkable, bills, Lawful, Billable, Laws}
 use Rattle.billing.proofs.RoomLaws.{plain_counted}
-use Rattle.billing.proofs.BillLaws.{paired}
 use Rattle.billing.proofs.RemainderLaws.{remainder_laws}
 use Rattle.billing.proofs.StatedLaws.{stated_laws}
 
@@ -48,10 +48,6 @@ period_laws shares fair (Stated percent) rooms lawful total q accepted =
     let facts = rest_claimed percent rooms total q lawful accepted in
     stated_laws percent rooms total q lawful.percent shares fair facts.claimed lawful facts.within
 
--- bills that are made of these own heats and common shares
 module _ (shares : Shares) (method : Method) (rooms : List CountedRoom) (total : ℕ) (q : Option ℕ) where
-  pub bills_made : (bs : List (ℕ × ℕ)) (owns commons : List ℕ) → bs ≡ paired owns commons → owns ≡ own_heats shares method rooms total q → commons ≡ common_shares shares method rooms total q → bs ≡ bills shares method rooms total q
-  bills_made bs owns commons e f g = e ∙ ap (λ v. paired v commons) f ∙ ap (paired (own_heats shares method rooms total q)) g
-
-  pub bills_lawful : (bs : List (ℕ × ℕ)) → bs ≡ bills shares method rooms total q → Fair shares → Billable method rooms total q → Laws method rooms total q bs
+  pub bills_lawful : (bs : List Bill) → bs ≡ bills shares method rooms total q → Fair shares → Billable method rooms total q → Laws method rooms total q bs
   bills_lawful bs e fair b = subst (Laws method rooms total q) (sym e) (period_laws shares fair method rooms b.lawful total q b.accepted)

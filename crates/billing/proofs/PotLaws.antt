@@ -1,5 +1,6 @@
 -- What the sharing of a pot gives those with a claim to it.
-use Rattle.std.proofs.Common.{◌≡◌, ℕ, zero, suc, ◌+◌, ◌*◌, ◌<◌, ◌≤◌, List, [], ◌∷◌, map, length, replicate, Some, None, sum_by, sum, Option, sym, refl, ap, ◌∙◌, subst, ⊎_elim, mul-le-mul_right, lt_of_mul-lt-mul_right, arith}
+use Rattle.std.proofs.Common.{◌≡◌, ℕ, suc, ◌+◌, ◌<◌, ◌≤◌, List, [], ◌∷◌, map, length, replicate, Some, None, sum_by, sum, Option, sym, refl, ap, ◌∙◌, subst, ⊎_elim, mul-le-mul_right, lt_of_mul-lt-mul_right, arith}
+use lib.ListN.{length-map}
 use Rattle.std.specs.List.{AllZip, AllByRecursion}
 use Rattle.std.proofs.ByRecursion.{All-from_get_or}
 use Rattle.std.proofs.lemmas.List.Sums.{sum_by-cons}
@@ -8,7 +9,7 @@ use Rattle.sharing.specs.Rule.{Shares, Fair, Near}
 use Rattle.sharing.specs.Totals.{sum_cons, entry_le_sum}
 use Rattle.sharing.proofs.RuleLaws.{shares_sum}
 use Rattle.billing.specs.Pots.{weights, put_back, pot_shares, Both}
-use Rattle.billing.proofs.Beside.{both_length, both_unmap}
+use Rattle.billing.proofs.Beside.{both_unmap}
 
 -- what a claim weighs
 abbrev pub weight : Option ℕ → ℕ
@@ -36,11 +37,7 @@ pub record Portion (pot all weight share : ℕ) : Type 0 where
 
 -- of a pot below the sum of the weights nobody gets more than its weight
 pub portion_le : (pot all weight share : ℕ) → pot ≤ all → Portion pot all weight share → share ≤ weight
-portion_le pot all w s le p =
-    ⊎_elim
-    (λ pos. let below : s * all < (w + 1) * all = omega (arith, (p.near pos).0, mul-le-mul_right w le) in omega (arith, lt_of_mul-lt-mul_right all below))
-    (λ none. omega (arith, p.none (omega arith)))
-    (cases_lt 0 all)
+portion_le pot all w s le p = grind (arith, mul-le-mul_right, lt_of_mul-lt-mul_right)
 
 -- and to a claim: to none, nothing
 abbrev pub Falls : (ℕ → ℕ → Type 0) → Option ℕ → ℕ → Type 0
@@ -52,6 +49,16 @@ put_back_falls P [] ss h = tt
 put_back_falls P (None ∷ claims) ss h = (refl, put_back_falls P claims ss h)
 put_back_falls P (Some w ∷ claims) [] h = absurd h
 put_back_falls P (Some w ∷ claims) (s ∷ ss) (p, h) = (p, put_back_falls P claims ss h)
+
+put_back_length : (claims : List (Option ℕ)) (ss : List ℕ) → length (put_back claims ss) ≡ length claims
+put_back_length [] ss = refl
+put_back_length (None ∷ claims) ss = ap suc (put_back_length claims ss)
+put_back_length (Some w ∷ claims) [] = ap suc (put_back_length claims [])
+put_back_length (Some w ∷ claims) (s ∷ ss) = ap suc (put_back_length claims ss)
+
+-- a share for each entry of a list
+pub shares_length : {X : Type 0} (shares : Shares) (pot : ℕ) (claim : X → Option ℕ) (xs : List X) → length (pot_shares shares pot (map claim xs)) ≡ length xs
+shares_length shares pot claim xs = put_back_length (map claim xs) (shares pot (weights (map claim xs))) ∙ length-map xs claim
 
 put_back_sum : (claims : List (Option ℕ)) (ss : List ℕ) → length ss ≡ length (weights claims) → sum (put_back claims ss) ≡ sum ss
 put_back_sum [] [] e = refl
@@ -74,8 +81,7 @@ no_portions pot all (w ∷ ws) z (p, le) =
 
 -- a pot with no claimant holds nothing
 pub nothing : (pot all : ℕ) → (0 < pot → 0 < all) → all ≤ 0 → pot ≡ 0
-nothing zero all weighed none = refl
-nothing (suc pot) all weighed none = absurd (omega (arith, weighed (omega arith)))
+nothing pot all weighed none = grind arith
 
 module _ (shares : Shares) (fair : Fair shares) (pot : ℕ) (claims : List (Option ℕ)) (weighed : 0 < pot → 0 < sum (weights claims)) where
   portions : AllZip (Portion pot (sum (weights claims))) (weights claims) (shares pot (weights claims))
@@ -91,9 +97,6 @@ module _ (shares : Shares) (fair : Fair shares) (pot : ℕ) (claims : List (Opti
 
   pub pot_falls : Both (Falls (Portion pot (sum (weights claims)))) claims (pot_shares shares pot claims)
   pot_falls = put_back_falls (Portion pot (sum (weights claims))) claims (shares pot (weights claims)) portions
-
-  pub pot_length : length (pot_shares shares pot claims) ≡ length claims
-  pot_length = both_length (Falls (Portion pot (sum (weights claims)))) claims (pot_shares shares pot claims) pot_falls
 
   pub pot_sum : sum (pot_shares shares pot claims) ≡ pot
   pot_sum = put_back_sum claims (shares pot (weights claims)) (fair.long pot (weights claims)) ∙ shares_sum shares fair pot (weights claims) weighed

@@ -1,7 +1,8 @@
 -- The method Remainder keeps the laws of a period.
-use Rattle.std.proofs.Common.{◌≡◌, ℕ, ◌+◌, ◌-◌, ◌*◌, ◌/◌, ◌<◌, ◌≤◌, eqb, List, Some, None, Option, sym, refl, ap, ◌∙◌, subst, ⊎_elim, mul-div_cancel, arith}
+use Rattle.std.proofs.Common.{◌≡◌, ℕ, ◌-◌, ◌*◌, ◌/◌, ◌<◌, ◌≤◌, List, Some, None, Option, sym, refl, ap, ◌∙◌, subst, ⊎_elim, mul-div_cancel, arith}
 use native.Mathlib.Nat.{div-zero}
-use Rattle.std.proofs.lemmas.Bool.{cases_lt, cond-true, cond-false, eq-eqb, ne_eqb}
+use Rattle.std.proofs.lemmas.Bool.{cases_lt}
+use Rattle.std.proofs.lemmas.Bool.Decides.{nat_tests}
 use Rattle.sharing.specs.Rule.{Shares, Fair}
 use Rattle.sharing.specs.Parts.{capped}
 use Rattle.house.specs.declared.method.Method.TheVariants.{Remainder}
@@ -14,33 +15,23 @@ use Rattle.billing.specs.Fraction.{Fraction, whole, over}
 use Rattle.billing.specs.Remainder.{unread, claiming_area, common_pot, plain_pot, own_heats, common_shares}
 use Rattle.billing.specs.Period.{bills, Lawful, Laws}
 use Rattle.billing.proofs.Beside.{both_weaker, become, sum_beside, sum_over}
-use Rattle.billing.proofs.PotLaws.{Portion, Falls, nothing}
+use Rattle.billing.proofs.PotLaws.{Portion, Falls}
 use Rattle.billing.proofs.FractionLaws.{Lies, lies_whole, part_lies, left_lies}
 use Rattle.billing.proofs.RoomLaws.{some_area, area_shares_fall, area_shares_total, plain_shares_fall, plain_shares_total}
 use Rattle.billing.proofs.BillLaws.{read_heat, Own, laws_hold}
 
 module _ (common : ℕ) (rooms : List CountedRoom) (total : ℕ) where
   pub common_pot_le : common_pot common rooms total ≤ unread rooms total
-  common_pot_le =
-      let u = unread rooms total in
-      let d = claiming_area common rooms in
-      ⊎_elim
-      (λ pos. capped u common d (omega arith))
-      (λ none. omega (arith, ap (λ v. u * common / v) (let z : d ≡ 0 = omega arith in z), div-zero (u * common)))
-      (cases_lt 0 d)
+  common_pot_le = grind (arith, capped, div-zero)
 
   some_plain_pot : 0 < claiming_area common rooms → plain_pot common rooms total ≡ unread rooms total - common_pot common rooms total
-  some_plain_pot pos = cond-false (eqb (claiming_area common rooms) 0) 0 _ (ne_eqb _ 0 (omega arith))
+  some_plain_pot pos = grind (arith, nat_tests)
 
   no_plain_pot : claiming_area common rooms ≤ 0 → plain_pot common rooms total ≡ 0
-  no_plain_pot none = cond-true (eqb (claiming_area common rooms) 0) 0 _ (eq-eqb _ 0 (omega arith))
+  no_plain_pot none = grind (arith, nat_tests)
 
   pub plain_pot_le : plain_pot common rooms total ≤ unread rooms total
-  plain_pot_le =
-      ⊎_elim
-      (λ pos. omega (arith, some_plain_pot pos))
-      (λ none. omega (arith, no_plain_pot none))
-      (cases_lt 0 (claiming_area common rooms))
+  plain_pot_le = grind (arith, nat_tests)
 
   -- with no plain room the common area claims all, if there is one
   pub plain_weighed : 0 < plain_pot common rooms total → 0 < plain_area rooms
@@ -59,11 +50,7 @@ module _ (common : ℕ) (rooms : List CountedRoom) (total : ℕ) where
 
   module _ (claimed : 0 < unread rooms total → 0 < claiming_area common rooms) where
     pub plain_pot_is : plain_pot common rooms total ≡ unread rooms total - common_pot common rooms total
-    plain_pot_is =
-        ⊎_elim
-        some_plain_pot
-        (λ none. omega (arith, no_plain_pot none, nothing (unread rooms total) (claiming_area common rooms) claimed none))
-        (cases_lt 0 (claiming_area common rooms))
+    plain_pot_is = grind (arith, nat_tests)
 
 module _ (common : ℕ) (rooms : List CountedRoom) (total : ℕ) (claimed : 0 < unread rooms total → 0 < claiming_area common rooms) where
   -- without rounding
@@ -81,16 +68,6 @@ module _ (common : ℕ) (rooms : List CountedRoom) (total : ℕ) (claimed : 0 < 
   own_lies (Read m) area s h = lies_whole 2 1 m (omega arith) (omega arith)
   own_lies Plain area s h = left_lies (unread rooms total) common (plain_area rooms) area s (subst (λ (v : ℕ). Portion v (plain_area rooms) area s) (plain_pot_is common rooms total claimed) h)
   own_lies (Detached t) area s h = subst (λ (v : ℕ). Lies 2 1 v (whole 0)) (sym h) (lies_whole 2 1 0 (omega arith) (omega arith))
-
-  own_sum : (role : Role) (area s : ℕ) → Plain_share role area s → if_read role (λ m. m) s ≡ if_read role (λ m. m) 0 + s
-  own_sum (Read m) area s h = omega arith
-  own_sum Plain area s h = omega arith
-  own_sum (Detached t) area s h = omega arith
-
-  reading : (role : Role) (s : ℕ) → if_read role (λ _. if_read role (λ m. m) s) 0 ≡ if_read role (λ m. m) 0
-  reading (Read m) s = refl
-  reading Plain s = refl
-  reading (Detached t) s = refl
 
   pub remainder_laws : (shares : Shares) → Fair shares → (q : Option ℕ) → Lawful (Remainder common) rooms → read_sum rooms ≤ total → Laws (Remainder common) rooms total q (bills shares (Remainder common) rooms total q)
   remainder_laws shares fair q lawful within =
@@ -111,10 +88,10 @@ module _ (common : ℕ) (rooms : List CountedRoom) (total : ℕ) (claimed : 0 < 
       rooms commons (area_shares_fall shares fair c rooms (λ _. area)))
       (omega (
         arith,
-        sum_beside Share own (λ r. if_read r.role (λ m. m) 0) (λ r s h. own_sum r.role r.area s h) rooms plain-shares falls,
+        sum_beside Share own (λ r. if_read r.role (λ m. m) 0) (λ r s h. grind arith) rooms plain-shares falls,
         plain_shares_total shares fair p rooms weighed,
         area_shares_total shares fair c rooms (λ _. area),
         plain_pot_is common rooms total claimed,
         common_pot_le common rooms total,
       ))
-      (sum_over read_heat own (λ r. if_read r.role (λ m. m) 0) (λ r s. reading r.role s) rooms plain-shares)
+      (sum_over read_heat own (λ r. if_read r.role (λ m. m) 0) (λ r s. grind arith) rooms plain-shares)

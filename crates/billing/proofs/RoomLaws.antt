@@ -3,12 +3,10 @@ use Rattle.std.proofs.Common.{◌≡◌, ℕ, ◌+◌, ◌<◌, ◌≤◌, true,
 use Rattle.std.specs.List.{AllByRecursion}
 use Rattle.std.proofs.lemmas.List.Sums.{sum_by-cons}
 use Rattle.sharing.specs.Rule.{Shares, Fair}
-use Rattle.billing.specs.declared.counting.Role.{Role}
-use Rattle.billing.specs.declared.counting.Role.TheVariants.{Read, Plain, Detached}
 use Rattle.billing.specs.declared.counting.CountedRoom.{CountedRoom}
 use Rattle.billing.specs.Counting.{if_read, if_plain, all_area, plain_area, plain_count, read_area}
 use Rattle.billing.specs.Pots.{weights, pot_shares, by_area, plain_by_area, Both}
-use Rattle.billing.proofs.PotLaws.{weight, weights_sum, Portion, Falls, shares_fall, shares_total}
+use Rattle.billing.proofs.PotLaws.{weights_sum, Portion, Falls, shares_fall, shares_total}
 
 pub sums_le : {X : Type 0} (f g : X → ℕ) → ((x : X) → f x ≤ g x) → (xs : List X) → sum_by f xs ≤ sum_by g xs
 sums_le f g each [] = omega arith
@@ -18,38 +16,17 @@ pub sums_add : {X : Type 0} (f g h : X → ℕ) → ((x : X) → f x ≡ g x + h
 sums_add f g h each [] = refl
 sums_add f g h each (x ∷ xs) = omega (arith, sum_by-cons f x xs, sum_by-cons g x xs, sum_by-cons h x xs, each x, sums_add f g h each xs)
 
--- of a room that is not read
-pub not_read : {X : Type 0} (role : Role) (f : ℕ → X) (y : X) → ((m : ℕ) → role ≡ Read m → ⊥) → if_read role f y ≡ y
-not_read (Read m) f y other = absurd (other m refl)
-not_read Plain f y other = refl
-not_read (Detached t) f y other = refl
-
 pub areas_sum : (rooms : List CountedRoom) → sum (weights (by_area rooms)) ≡ all_area rooms
 areas_sum rooms = weights_sum (λ (r : CountedRoom). Some r.area) (λ (r : CountedRoom). r.area) (λ r. refl) rooms
 
 pub plain_areas_sum : (rooms : List CountedRoom) → sum (weights (plain_by_area rooms)) ≡ plain_area rooms
-plain_areas_sum rooms = weights_sum (λ (r : CountedRoom). if_plain r.role (Some r.area) None) (λ (r : CountedRoom). if_plain r.role r.area 0) (λ r. by r.role r.area) rooms
-  where
-    by : (role : Role) (area : ℕ) → weight (if_plain role (Some area) None) ≡ if_plain role area 0
-    by (Read m) area = refl
-    by Plain area = refl
-    by (Detached t) area = refl
+plain_areas_sum rooms = weights_sum (λ (r : CountedRoom). if_plain r.role (Some r.area) None) (λ (r : CountedRoom). if_plain r.role r.area 0) (λ r. grind arith) rooms
 
 pub plain_le_all : (rooms : List CountedRoom) → plain_area rooms ≤ all_area rooms
-plain_le_all rooms = sums_le (λ (r : CountedRoom). if_plain r.role r.area 0) (λ (r : CountedRoom). r.area) (λ r. by r.role r.area) rooms
-  where
-    by : (role : Role) (area : ℕ) → if_plain role area 0 ≤ area
-    by (Read m) area = omega arith
-    by Plain area = omega arith
-    by (Detached t) area = omega arith
+plain_le_all rooms = sums_le (λ (r : CountedRoom). if_plain r.role r.area 0) (λ (r : CountedRoom). r.area) (λ r. grind arith) rooms
 
 pub read_le_all : (rooms : List CountedRoom) → read_area rooms ≤ all_area rooms
-read_le_all rooms = sums_le (λ (r : CountedRoom). if_read r.role (λ _. r.area) 0) (λ (r : CountedRoom). r.area) (λ r. by r.role r.area) rooms
-  where
-    by : (role : Role) (area : ℕ) → if_read role (λ _. area) 0 ≤ area
-    by (Read m) area = omega arith
-    by Plain area = omega arith
-    by (Detached t) area = omega arith
+read_le_all rooms = sums_le (λ (r : CountedRoom). if_read r.role (λ _. r.area) 0) (λ (r : CountedRoom). r.area) (λ r. grind arith) rooms
 
 -- a house with a room has an area
 pub some_area : (rooms : List CountedRoom) → 0 < length rooms → AllByRecursion (λ (r : CountedRoom). 0 < r.area) rooms → 0 < all_area rooms
@@ -60,12 +37,8 @@ some_area (r ∷ rooms) some (a, areas) = omega (arith, sum_by-cons (λ (r : Cou
 pub plain_counted : (rooms : List CountedRoom) → AllByRecursion (λ (r : CountedRoom). 0 < r.area) rooms → plain_count rooms ≤ plain_area rooms
 plain_counted [] areas = omega arith
 plain_counted (r ∷ rooms) (a, areas) =
-    omega (arith, sum_by-cons (λ (r : CountedRoom). cond {A = ℕ} (if_plain r.role true false) 1 0) r rooms, sum_by-cons (λ (r : CountedRoom). if_plain r.role r.area 0) r rooms, by r.role r.area a, plain_counted rooms areas)
-  where
-    by : (role : Role) (area : ℕ) → 0 < area → cond {A = ℕ} (if_plain role true false) 1 0 ≤ if_plain role area 0
-    by (Read m) area some = omega arith
-    by Plain area some = some
-    by (Detached t) area some = omega arith
+    let plain : cond {A = ℕ} (if_plain r.role true false) 1 0 ≤ if_plain r.role r.area 0 = grind arith in
+    omega (arith, sum_by-cons (λ (r : CountedRoom). cond {A = ℕ} (if_plain r.role true false) 1 0) r rooms, sum_by-cons (λ (r : CountedRoom). if_plain r.role r.area 0) r rooms, plain_counted rooms areas)
 
 -- a pot shared among the rooms by area, and among those that count as plain
 module _ (shares : Shares) (fair : Fair shares) (pot : ℕ) (rooms : List CountedRoom) where

@@ -45,11 +45,6 @@ module _ (percent : ℕ) (rooms : List CountedRoom) (total : ℕ) (q : Option �
   gross_is Plain area sur s h = h
   gross_is (Detached t) area sur s h = refl
 
-  gross_sum : (role : Role) (area sur s : ℕ) → Rest_share role area s → gross sur role s ≡ gross sur role 0 + s
-  gross_sum (Read m) area sur s h = omega arith
-  gross_sum Plain area sur s h = omega arith
-  gross_sum (Detached t) area sur s h = omega arith
-
   -- no deduction passes the excess
   deducted_le : (exc d : ℕ) → Portion (surcharges percent rooms) (excesses percent rooms) exc d → d ≤ exc
   deducted_le exc d p = portion_le (surcharges percent rooms) (excesses percent rooms) exc d (surcharges_le percent rooms low) p
@@ -80,24 +75,10 @@ module _ (percent : ℕ) (rooms : List CountedRoom) (total : ℕ) (q : Option �
 
   -- a deduction leaves the rest of what is billed
   less : (role : Role) (area f g d : ℕ) → Gross role area (if_read role (λ m. f - m) 0) g → Deducted role (if_read role (λ m. m - f) 0) d → (g - d) + d ≡ g
-  less (Read m) area f g d e p = omega (arith, deducted_le (m - f) d p)
-  less Plain area f g d p z = omega arith
-  less (Detached t) area f g d e z = omega arith
+  less role area f g d h k = grind (arith, deducted_le)
 
   less_read : (role : Role) (area f g d : ℕ) → Gross role area (if_read role (λ m. f - m) 0) g → Deducted role (if_read role (λ m. m - f) 0) d → if_read role (λ _. g - d) 0 + d ≡ if_read role (λ m. m + (f - m)) 0
-  less_read (Read m) area f g d e p = omega (arith, deducted_le (m - f) d p)
-  less_read Plain area f g d p z = omega arith
-  less_read (Detached t) area f g d e z = omega arith
-
-  read_with : (role : Role) (f : ℕ) → if_read role (λ m. m + (f - m)) 0 ≡ if_read role (λ m. m) 0 + if_read role (λ m. f - m) 0
-  read_with (Read m) f = refl
-  read_with Plain f = refl
-  read_with (Detached t) f = refl
-
-  base_parts : (role : Role) (f : ℕ) → gross (if_read role (λ m. f - m) 0) role 0 ≡ if_read role (λ m. m + (f - m)) 0 + pipe role
-  base_parts (Read m) f = omega arith
-  base_parts Plain f = refl
-  base_parts (Detached t) f = omega arith
+  less_read role area f g d h k = grind (arith, deducted_le)
 
   -- what each room is billed before the deduction, and its deduction
   abbrev Heat : CountedRoom → ℕ → Type 0
@@ -154,7 +135,7 @@ module _ (percent : ℕ) (rooms : List CountedRoom) (total : ℕ) (q : Option �
           let Mine : CountedRoom → ℕ → Type 0 = λ r o. Own 1 1 (if_read r.role (λ _. fl r) 0) o (exact_own percent rooms total q r) in
           let owned : Both Mine rooms owns = meet Heat Less Mine (λ g d. g - d) (λ r g d h k. own_is r.role r.area g d h k) rooms heats deds heats_fall deductions_fall in
           let read-base : CountedRoom → ℕ = λ r. if_read r.role (λ m. m + (fl r - m)) 0 in
-          let reads = sums_add read-base (λ r. if_read r.role (λ m. m) 0) sur (λ r. read_with r.role (fl r)) rooms in
+          let reads = sums_add read-base (λ r. if_read r.role (λ m. m) 0) sur (λ r. grind arith) rooms in
           laws_hold (Stated percent) rooms total q (exact_own percent rooms total q) (λ r. over (c * r.area) (all_area rooms)) refl 1 1 1 1 owns commons (omega arith) (omega arith)
           owned
           (both_weaker (λ r s. Portion c (all_area rooms) r.area s) (λ r s. Lies 1 1 s (over (c * r.area) (all_area rooms)))
@@ -164,8 +145,8 @@ module _ (percent : ℕ) (rooms : List CountedRoom) (total : ℕ) (q : Option �
             sum_less Heat Less (λ _ o. o) (λ _ g. g) (λ r g d h k. less r.role r.area (fl r) g d h k) rooms heats deds heats_fall deductions_fall,
             ap sum (beside_second rooms owns (both_length Mine rooms owns owned)),
             ap sum (beside_second rooms heats (both_length Heat rooms heats heats_fall)),
-            sum_beside Share heat base (λ r s h. gross_sum r.role r.area (sur r) s h) rooms rests rests_fall,
-            sums_add base read-base (λ r. pipe r.role) (λ r. base_parts r.role (fl r)) rooms,
+            sum_beside Share heat base (λ r s h. grind arith) rooms rests rests_fall,
+            sums_add base read-base (λ r. pipe r.role) (λ r. grind arith) rooms,
             reads,
             sum-map sur rooms,
             deductions_sum,

@@ -1,5 +1,5 @@
 -- Exact amounts: pairs of whole numbers, a top over a bottom above 0.
-use Rattle.std.specs.Prelude.{ℕ, ◌+◌, ◌-◌, ◌*◌, ◌<◌, cond, ◌==◌}
+use Rattle.std.specs.Prelude.{ℕ, ◌+◌, ◌-◌, ◌*◌, ◌<◌, if◌then◌else◌, ◌==◌}
 
 pub record Fraction : Type 0 where
   pub top : ℕ
@@ -10,7 +10,7 @@ abbrev pub whole : ℕ → Fraction
 whole n = record { top = n; bottom = 1 }
 
 abbrev pub over : ℕ → ℕ → Fraction
-over n d = cond (d == 0) (whole 0) (record { top = n; bottom = d })
+over n d = if d == 0 then whole 0 else record { top = n; bottom = d }
 
 -- crosswise
 abbrev pub plus : Fraction → Fraction → Fraction

@@ -1,11 +1,12 @@
 -- One period of a house: when it is refused, its bills and exact amounts, and the laws that every method keeps.
-use Rattle.std.specs.Prelude.{◌≡◌, ℕ, ◌+◌, ◌<◌, ◌≤◌, Bool, true, false, cond, not, ◌&&◌, ◌||◌, List, [], ◌∷◌, length, is_some, Some, None, sum_by, Option, ◌==◌, nat_lt}
+use Rattle.std.specs.Prelude.{◌≡◌, ℕ, ◌+◌, ◌<◌, ◌≤◌, Bool, true, false, if◌then◌else◌, not, ◌&&◌, ◌||◌, List, [], ◌∷◌, length, is_some, Some, None, sum_by, Option, ◌==◌, nat_lt}
 use Rattle.std.specs.List.{AllByRecursion}
 use Rattle.fault.specs.declared.reason.Reason.{Reason}
 use Rattle.fault.specs.declared.reason.Reason.TheVariants.{FigureTooLarge, CommonFigure, ReadingsAboveTotal, RestUnclaimed}
 use Rattle.sharing.specs.Rule.{Shares}
 use Rattle.house.specs.declared.method.Method.{Method}
 use Rattle.house.specs.declared.method.Method.TheVariants.{Remainder, Stated}
+use Rattle.billing.specs.declared.bill.Bill.{Bill}
 use Rattle.billing.specs.declared.counting.CountedRoom.{CountedRoom}
 use Rattle.billing.specs.Counting.{if_read, plain_count, all_area, read_sum, pipe_sum}
 use Rattle.billing.specs.Pots.{beside, Both}
@@ -43,13 +44,14 @@ unclaimed (Stated percent) rooms total = false
 -- the first reason that applies to working a period out, and to closing one
 abbrev pub unworkable : Method → List CountedRoom → ℕ → Option ℕ → Option Reason
 unworkable method rooms total q =
-    cond (differ (wants_common method rooms) (is_some q)) (Some CommonFigure)
-    (cond (nat_lt total (outlay method rooms q)) (Some ReadingsAboveTotal)
-    (cond (unclaimed method rooms total) (Some RestUnclaimed)
-    None))
+    if differ (wants_common method rooms) (is_some q) then Some CommonFigure
+    else (if nat_lt total (outlay method rooms q) then Some ReadingsAboveTotal
+    else (if unclaimed method rooms total then Some RestUnclaimed
+    else None))
 
 abbrev pub refusal : Method → List CountedRoom → ℕ → Option ℕ → Option Reason
-refusal method rooms total q = cond (nat_lt 100000000 total || nat_lt 100000000 (given q)) (Some FigureTooLarge) (unworkable method rooms total q)
+refusal method rooms total q =
+    if nat_lt 100000000 total || nat_lt 100000000 (given q) then Some FigureTooLarge else unworkable method rooms total q
 
 abbrev pub own_heats : Shares → Method → List CountedRoom → ℕ → Option ℕ → List ℕ
 own_heats shares (Remainder common) rooms total q = remainder.own_heats shares common rooms total
@@ -59,12 +61,19 @@ abbrev pub common_shares : Shares → Method → List CountedRoom → ℕ → Op
 common_shares shares (Remainder common) rooms total q = remainder.common_shares shares common rooms total
 common_shares shares (Stated percent) rooms total q = stated.common_shares shares rooms total q
 
--- own heat and common share of each room
-abbrev pub bills : Shares → Method → List CountedRoom → ℕ → Option ℕ → List (ℕ × ℕ)
-bills shares method rooms total q = beside (λ own common. (own, common)) (own_heats shares method rooms total q) (common_shares shares method rooms total q)
+abbrev pub bill : ℕ → ℕ → Bill
+bill own common = record { own = own; common = common }
 
-abbrev pub figures : ℕ × ℕ → ℕ
-figures bill = bill.0 + bill.1
+-- own heat and common share of each room
+abbrev pub bills : Shares → Method → List CountedRoom → ℕ → Option ℕ → List Bill
+bills shares method rooms total q = beside bill (own_heats shares method rooms total q) (common_shares shares method rooms total q)
+
+abbrev pub figures : Bill → ℕ
+figures bill = bill.own + bill.common
+
+-- of a room that is billed nothing
+abbrev pub no_bill : Bill
+no_bill = bill 0 0
 
 abbrev pub exact_amounts : Method → List CountedRoom → ℕ → Option ℕ → List Fraction
 exact_amounts (Remainder common) rooms total q = remainder.exact_amounts common rooms total
@@ -76,10 +85,10 @@ floor (Remainder common) rooms r = 0
 floor (Stated percent) rooms r = if_read r.role (λ _. stated.floor percent rooms r.area) 0
 
 -- own heats of the rooms that are read
-abbrev pub read_heats : List CountedRoom → List (ℕ × ℕ) → ℕ
+abbrev pub read_heats : List CountedRoom → List Bill → ℕ
 read_heats [] bs = 0
 read_heats (r ∷ rooms) [] = 0
-read_heats (r ∷ rooms) (b ∷ bs) = if_read r.role (λ _. b.0) 0 + read_heats rooms bs
+read_heats (r ∷ rooms) (b ∷ bs) = if_read r.role (λ _. b.own) 0 + read_heats rooms bs
 
 abbrev pub stated_percent : Method → ℕ
 stated_percent (Remainder common) = 0
@@ -100,9 +109,9 @@ pub record Billable (method : Method) (rooms : List CountedRoom) (total : ℕ) (
   pub accepted : unworkable method rooms total q ≡ None
 
 -- the laws of one period
-pub record Laws (method : Method) (rooms : List CountedRoom) (total : ℕ) (q : Option ℕ) (bs : List (ℕ × ℕ)) : Type 0 where
+pub record Laws (method : Method) (rooms : List CountedRoom) (total : ℕ) (q : Option ℕ) (bs : List Bill) : Type 0 where
   pub long : length bs ≡ length rooms
   pub closes : sum_by figures bs ≡ total
-  pub near : Both (λ (b : ℕ × ℕ) x. Within 3 (figures b) x) bs (exact_amounts method rooms total q)
-  pub floors : Both (λ (r : CountedRoom) (b : ℕ × ℕ). floor method rooms r ≤ b.0) rooms bs
+  pub near : Both (λ (b : Bill) x. Within 3 (figures b) x) bs (exact_amounts method rooms total q)
+  pub floors : Both (λ (r : CountedRoom) (b : Bill). floor method rooms r ≤ b.own) rooms bs
   pub readings : read_heats rooms bs ≡ read_sum rooms

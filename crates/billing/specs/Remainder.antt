@@ -1,5 +1,5 @@
 -- The method Remainder: what the meters leave of the total, first to the common area and then to the rooms that count as plain.
-use Rattle.std.specs.Prelude.{ℕ, ◌+◌, ◌-◌, ◌*◌, ◌/◌, cond, List, map, ◌==◌}
+use Rattle.std.specs.Prelude.{ℕ, ◌+◌, ◌-◌, ◌*◌, ◌/◌, if◌then◌else◌, List, map, ◌==◌}
 use Rattle.sharing.specs.Rule.{Shares}
 use Rattle.billing.specs.declared.counting.CountedRoom.{CountedRoom}
 use Rattle.billing.specs.Counting.{if_read, if_plain, all_area, plain_area, read_sum}
@@ -18,7 +18,7 @@ abbrev pub common_pot : ℕ → List CountedRoom → ℕ → ℕ
 common_pot common rooms total = unread rooms total * common / claiming_area common rooms
 
 abbrev pub plain_pot : ℕ → List CountedRoom → ℕ → ℕ
-plain_pot common rooms total = cond (claiming_area common rooms == 0) 0 (unread rooms total - common_pot common rooms total)
+plain_pot common rooms total = if claiming_area common rooms == 0 then 0 else unread rooms total - common_pot common rooms total
 
 -- the reading, or the share of the plain pot
 abbrev pub own_heat : CountedRoom → ℕ → ℕ

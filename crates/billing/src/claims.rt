@@ -1,11 +1,11 @@
-ghost use Rattle.std.specs.Prelude.{◌≡◌, length};
+ghost use Rattle.std.specs.Prelude.{◌≡◌};
 ghost use Rattle.billing.specs.Pots.{pot_shares, Shareable};
 ghost use Rattle.billing.specs.Claims.{claim, claims};
 
+use crate::collecting::{PerRoom, collect};
 use crate::counting::{CountedRoom, Role};
 use crate::floors::Floors;
 use crate::pots::share_pot;
-use sharing::pot::MOST_CLAIMANTS;
 use sharing::rule::Sharing;
 
 // Who has a claim to a pot, and of what weight.
@@ -29,20 +29,11 @@ impl Basis {
             (Basis::PlainArea | Basis::Excess(_), _) => None,
         }
     }
-}
 
-fn no_claims() -> [Option<u32>; MOST_CLAIMANTS]
-    ensures { length result ≡ 256 }
-{
-    [None; MOST_CLAIMANTS]
-}
-
-fn write_claims(basis: Basis, rooms: &[CountedRoom], place: &mut [Option<u32>])
-    requires { length place.old ≡ length rooms.now }
-    ensures { place.new ≡ claims basis rooms.now }
-{
-    for (i, room) in rooms.iter().enumerate() {
-        place[i] = basis.claim(*room);
+    fn claims(self, rooms: &PerRoom<CountedRoom>) -> PerRoom<Option<u32>>
+        ensures { result ≡ claims self rooms.now }
+    {
+        collect(rooms.as_slice().iter().map(|room| self.claim(*room)))
     }
 }
 
@@ -51,15 +42,10 @@ pub(crate) fn share_by<R: Sharing>(
     rule: &R,
     pot: u32,
     basis: Basis,
-    rooms: &[CountedRoom],
-    place: &mut [u32],
-)
-    requires room { length place.old ≡ length rooms.now }
-    requires shareable { Shareable pot (claims basis rooms.now) }
-    ensures { place.new ≡ pot_shares (R.shares rule.now) pot (claims basis rooms.now) }
+    rooms: &PerRoom<CountedRoom>,
+) -> PerRoom<u32>
+    requires { Shareable pot (claims basis rooms.now) }
+    ensures { result ≡ pot_shares (R.shares rule.now) pot (claims basis rooms.now) }
 {
-    let mut all = no_claims();
-    let claims = &mut all[0..rooms.len()];
-    write_claims(basis, rooms, claims);
-    share_pot(rule, pot, claims, place);
+    share_pot(rule, pot, &basis.claims(rooms))
 }

@@ -1,21 +1,23 @@
-ghost use Rattle.std.specs.Prelude.{◌≡◌, length, None, slice_index_or};
+ghost use Rattle.std.specs.Prelude.{◌≡◌, ◌≤◌, length, None, slice_index_or};
 ghost use Rattle.billing.specs.Counting.{role, counted};
 
+use crate::collecting::{PerRoom, collect};
 use house::room::{Kind, Room};
 
 // How a room counts in a period.
-#[derive(Clone, Copy, PartialEq, Eq, Debug)]
+#[derive(Clone, Copy, PartialEq, Eq, Debug, Default)]
 pub enum Role {
     // Metered, with this reading.
     Read(u32),
     // Plain, or metered without a reading.
+    #[default]
     Plain,
     // Detached, with its pipe figure.
     Detached(u32),
 }
 
 // A room as it counts in a period.
-#[derive(Clone, Copy)]
+#[derive(Clone, Copy, Default)]
 pub struct CountedRoom {
     pub area: u32,
     pub role: Role,
@@ -39,19 +41,14 @@ pub(crate) fn count(room: &Room, reading: Option<u32>) -> CountedRoom
 fn reading_at(readings: &[Option<u32>], place: usize) -> Option<u32>
     ensures { result ≡ slice_index_or readings.now place None }
 {
-    if place < readings.len() {
-        readings[place]
-    } else {
-        None
-    }
+    readings.get(place).copied().flatten()
 }
 
-// The rooms of a house with their readings beside them, into a place that is as long as the rooms.
-pub(crate) fn count_rooms(rooms: &[Room], readings: &[Option<u32>], place: &mut [CountedRoom])
-    requires { length place.old ≡ length rooms.now }
-    ensures { place.new ≡ counted rooms.now readings.now }
+// The rooms of a house with their readings beside them.
+pub(crate) fn count_rooms(rooms: &[Room], readings: &[Option<u32>]) -> PerRoom<CountedRoom>
+    requires { length rooms.now ≤ 256 }
+    ensures { result ≡ counted rooms.now readings.now }
 {
-    for (i, room) in rooms.iter().enumerate() {
-        place[i] = count(room, reading_at(readings, i));
-    }
+    let placed = rooms.iter().enumerate();
+    collect(placed.map(|(i, room)| count(room, reading_at(readings, i))))
 }

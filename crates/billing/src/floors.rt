@@ -1,7 +1,9 @@
 ghost use Rattle.std.specs.Prelude.{◌≡◌, ◌≤◌, map, length, sum};
 ghost use Rattle.std.specs.List.{AllByRecursion};
+ghost use Rattle.billing.specs.Pots.{beside};
 ghost use Rattle.billing.specs.Claims.{floors, floor_by, surcharge_by, excess_by, gross_by, Floored, Among};
 
+use crate::collecting::{PerRoom, collect};
 use crate::counting::{CountedRoom, Role};
 use crate::sums::Sums;
 
@@ -15,7 +17,7 @@ pub(crate) struct Floors {
 }
 
 impl Floors {
-    pub(crate) fn of(percent: u32, rooms: &[CountedRoom]) -> Floors
+    pub(crate) fn of(percent: u32, rooms: &PerRoom<CountedRoom>) -> Floors
         requires { Floored percent rooms.now }
         ensures { result ≡ floors percent rooms.now }
     {
@@ -32,10 +34,10 @@ impl Floors {
     fn floor(self, area: u32) -> u128
         ensures { result ≡ floor_by self area }
     {
-        if self.area == 0 {
-            return 0;
-        }
-        self.percent as u128 * self.readings as u128 * area as u128 / (100 * self.area as u128)
+        let product = u128::from(self.percent) * u128::from(self.readings) * u128::from(area);
+        product
+            .checked_div(100 * u128::from(self.area))
+            .unwrap_or(0)
     }
 
     // What a reading lacks to the floor.
@@ -45,7 +47,7 @@ impl Floors {
         ensures within { result ≤ self.readings }
     {
         match room.role {
-            Role::Read(figure) => self.floor(room.area).saturating_sub(figure as u128) as u32,
+            Role::Read(figure) => self.floor(room.area).saturating_sub(u128::from(figure)) as u32,
             Role::Plain | Role::Detached(_) => 0,
         }
     }
@@ -55,7 +57,7 @@ impl Floors {
         ensures { result ≡ excess_by self room }
     {
         match room.role {
-            Role::Read(figure) => (figure as u128).saturating_sub(self.floor(room.area)) as u32,
+            Role::Read(figure) => u128::from(figure).saturating_sub(self.floor(room.area)) as u32,
             Role::Plain | Role::Detached(_) => 0,
         }
     }
@@ -72,16 +74,29 @@ impl Floors {
         }
     }
 
-    // The true sum: 256 surcharges within the limits cannot wrap it.
-    pub(crate) fn surcharges(self, rooms: &[CountedRoom]) -> u64
-        requires few { length rooms.now ≤ 256 }
+    // That of each room, with its share beside it.
+    pub(crate) fn gross_of(
+        self,
+        rooms: &PerRoom<CountedRoom>,
+        shares: &PerRoom<u32>,
+    ) -> PerRoom<u32>
+        requires same { length shares.now ≡ length rooms.now }
         requires among { AllByRecursion (Among self) rooms.now }
+        ensures { result ≡ beside (gross_by self) rooms.now shares.now }
+    {
+        let pairs = rooms.as_slice().iter().zip(shares.as_slice());
+        collect(pairs.map(|(room, share)| self.gross(*room, *share)))
+    }
+
+    // The true sum: 256 surcharges within the limits cannot wrap it.
+    pub(crate) fn surcharges(self, rooms: &PerRoom<CountedRoom>) -> u64
+        requires { AllByRecursion (Among self) rooms.now }
         ensures { result ≡ sum (map (surcharge_by self) rooms.now) }
     {
-        let mut sum = 0u64;
-        for room in rooms {
-            sum += self.surcharge(*room) as u64;
-        }
-        sum
+        rooms
+            .as_slice()
+            .iter()
+            .map(|room| u64::from(self.surcharge(*room)))
+            .sum()
     }
 }

@@ -1,7 +1,9 @@
 // The bills of one period.
 #![tactic(auto)]
 
+pub mod bill;
 mod claims;
+mod collecting;
 pub mod counting;
 mod floors;
 mod period;

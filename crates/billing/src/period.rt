@@ -1,171 +1,105 @@
-ghost use Rattle.std.specs.Prelude.{◌≡◌, ◌≤◌, length};
-ghost use Rattle.billing.specs.Pots.{beside};
-ghost use Rattle.billing.specs.Period.{wants_common, outlay, unclaimed, refusal, own_heats, common_shares, bills, Billable, Laws};
+ghost use Rattle.std.specs.Prelude.{◌≡◌};
+ghost use Rattle.std.specs.Result.{result_err};
+ghost use Rattle.billing.specs.Period.{wants_common, outlay, unclaimed, refusal, bills, Billable, Laws};
 
+use crate::bill::Bill;
+use crate::collecting::PerRoom;
 use crate::counting::CountedRoom;
-use crate::pots::no_figures;
+use crate::remainder::Remainder;
+use crate::stated::Stated;
 use crate::sums::Sums;
-use crate::{remainder, stated};
 use fault::reason::Reason;
 use house::method::Method;
-use sharing::pot::{MOST_CLAIMANTS, MOST_UNITS};
+use sharing::pot::MOST_UNITS;
 use sharing::rule::Sharing;
-use tables::Table;
 
-// Whether the common figure comes with the closing: where it is stated and some room counts as plain.
-fn wants_common(method: Method, rooms: &[CountedRoom]) -> bool
-    requires { length rooms.now ≤ 256 }
-    ensures { result ≡ wants_common method rooms.now }
-{
-    match method {
-        Method::Remainder { .. } => false,
-        Method::Stated { .. } => Sums::of(rooms).plain_rooms > 0,
-    }
+// A period that is to be closed.
+#[derive(Clone, Copy)]
+pub(crate) struct Period<'a> {
+    pub(crate) method: Method,
+    pub(crate) rooms: &'a PerRoom<CountedRoom>,
+    pub(crate) total: u32,
+    // The common figure, where one is stated.
+    pub(crate) common: Option<u32>,
 }
 
-// What is billed before anything is shared.
-fn outlay(method: Method, rooms: &[CountedRoom], common: Option<u32>) -> u64
-    requires { length rooms.now ≤ 256 }
-    ensures { result ≡ outlay method rooms.now common }
-{
-    let sums = Sums::of(rooms);
-    match method {
-        Method::Remainder { .. } => sums.readings,
-        Method::Stated { .. } => sums.readings + sums.pipes + common.unwrap_or(0) as u64,
-    }
-}
-
-// Whether something is left that nobody has a claim to.
-fn is_unclaimed(method: Method, rooms: &[CountedRoom], total: u32) -> bool
-    requires { length rooms.now ≤ 256 }
-    ensures { result ≡ unclaimed method rooms.now total }
-{
-    match method {
-        Method::Remainder { common_area } => {
-            let sums = Sums::of(rooms);
-            sums.readings < total as u64 && common_area as u64 + sums.plain_area == 0
+// Where the methods differ there is a match and not a trait: a house holds its method as a value, so a trait would still
+// need a match to pick the impl, and each match names what a further method has to bring.
+impl Period<'_> {
+    // Whether the common figure comes with the closing: where it is stated and some room counts as plain.
+    fn wants_common(&self) -> bool
+        ensures { result ≡ wants_common self.now.method self.now.rooms.now }
+    {
+        match self.method {
+            Method::Remainder { .. } => false,
+            Method::Stated { .. } => Sums::of(self.rooms).plain_rooms > 0,
         }
-        Method::Stated { .. } => false,
     }
-}
 
-// Why a period is not closed with these figures, if there is a reason.
-pub(crate) fn refuse(
-    method: Method,
-    rooms: &[CountedRoom],
-    total: u32,
-    common: Option<u32>,
-) -> Option<Reason>
-    requires { length rooms.now ≤ 256 }
-    ensures { result ≡ refusal method rooms.now total common }
-{
-    if total > MOST_UNITS || common.unwrap_or(0) > MOST_UNITS {
-        return Some(Reason::FigureTooLarge);
+    // What is billed before anything is shared.
+    fn outlay(&self) -> u64
+        ensures { result ≡ outlay self.now.method self.now.rooms.now self.now.common }
+    {
+        let sums = Sums::of(self.rooms);
+        match self.method {
+            Method::Remainder { .. } => sums.readings,
+            Method::Stated { .. } => {
+                sums.readings + sums.pipes + u64::from(self.common.unwrap_or(0))
+            }
+        }
     }
-    if wants_common(method, rooms) != common.is_some() {
-        return Some(Reason::CommonFigure);
-    }
-    if (total as u64) < outlay(method, rooms, common) {
-        return Some(Reason::ReadingsAboveTotal);
-    }
-    if is_unclaimed(method, rooms, total) {
-        return Some(Reason::RestUnclaimed);
-    }
-    None
-}
 
-fn write_own_heats<R: Sharing>(
-    rule: &R,
-    method: Method,
-    rooms: &[CountedRoom],
-    total: u32,
-    common: Option<u32>,
-    place: &mut [u32],
-)
-    requires room { length place.old ≡ length rooms.now }
-    requires billable { Billable method rooms.now total common }
-    ensures { place.new ≡ own_heats (R.shares rule.now) method rooms.now total common }
-{
-    match method {
-        Method::Remainder { common_area } => remainder::write_own_heats(
-            rule,
-            common_area,
-            rooms,
-            total,
-            place,
-        ),
-        Method::Stated { floor_percent } => stated::write_own_heats(
-            rule,
-            floor_percent,
-            rooms,
-            total,
-            common,
-            place,
-        ),
+    // Whether something is left that nobody has a claim to.
+    fn is_unclaimed(&self) -> bool
+        ensures { result ≡ unclaimed self.now.method self.now.rooms.now self.now.total }
+    {
+        let sums = Sums::of(self.rooms);
+        match self.method {
+            Method::Remainder { common_area } => {
+                sums.readings < u64::from(self.total)
+                    && u64::from(common_area) + sums.plain_area == 0
+            }
+            Method::Stated { .. } => false,
+        }
     }
-}
 
-fn write_common_shares<R: Sharing>(
-    rule: &R,
-    method: Method,
-    rooms: &[CountedRoom],
-    total: u32,
-    common: Option<u32>,
-    place: &mut [u32],
-)
-    requires room { length place.old ≡ length rooms.now }
-    requires billable { Billable method rooms.now total common }
-    ensures { place.new ≡ common_shares (R.shares rule.now) method rooms.now total common }
-{
-    match method {
-        Method::Remainder { common_area } => remainder::write_common_shares(
-            rule,
-            common_area,
-            rooms,
-            total,
-            place,
-        ),
-        Method::Stated { floor_percent } => stated::write_common_shares(
-            rule,
-            floor_percent,
-            rooms,
-            total,
-            common,
-            place,
-        ),
+    // Whether it may be closed with these figures, or the first reason against it.
+    pub(crate) fn check(&self) -> Result<(), Reason>
+        ensures { result_err result ≡ refusal self.now.method self.now.rooms.now self.now.total self.now.common }
+    {
+        if self.total > MOST_UNITS || self.common.unwrap_or(0) > MOST_UNITS {
+            Err(Reason::FigureTooLarge)
+        } else if self.wants_common() != self.common.is_some() {
+            Err(Reason::CommonFigure)
+        } else if u64::from(self.total) < self.outlay() {
+            Err(Reason::ReadingsAboveTotal)
+        } else if self.is_unclaimed() {
+            Err(Reason::RestUnclaimed)
+        } else {
+            Ok(())
+        }
     }
-}
 
-// Own heat and common share of each room.
-fn pair_up(owns: &[u32], commons: &[u32]) -> Table<(u32, u32), MOST_CLAIMANTS>
-    requires few { length owns.now ≤ 256 }
-    requires same { length commons.now ≡ length owns.now }
-    ensures { result ≡ beside (λ own common. (own, common)) owns.now commons.now }
-{
-    let mut bills = Table::filled((0, 0), owns.len());
-    for (i, own) in owns.iter().enumerate() {
-        bills.set(i, (*own, commons[i]));
+    // Its bills, where nothing speaks against it.
+    pub(crate) fn bills<R: Sharing>(&self, rule: &R) -> PerRoom<Bill>
+        requires { Billable self.now.method self.now.rooms.now self.now.total self.now.common }
+        ensures bills { result ≡ bills (R.shares rule.now) self.now.method self.now.rooms.now self.now.total self.now.common }
+        ensures laws { Laws self.now.method self.now.rooms.now self.now.total self.now.common result }
+    {
+        match self.method {
+            Method::Remainder { common_area } => Remainder {
+                common_area,
+                rooms: self.rooms,
+                total: self.total,
+            }
+            .bills(rule),
+            Method::Stated { floor_percent } => Stated {
+                floor_percent,
+                rooms: self.rooms,
+                total: self.total,
+                common: self.common,
+            }
+            .bills(rule),
+        }
     }
-    bills
-}
-
-// The bills of a period that nothing speaks against.
-pub(crate) fn bill_period<R: Sharing>(
-    rule: &R,
-    method: Method,
-    rooms: &[CountedRoom],
-    total: u32,
-    common: Option<u32>,
-) -> Table<(u32, u32), MOST_CLAIMANTS>
-    requires { Billable method rooms.now total common }
-    ensures bills { result ≡ bills (R.shares rule.now) method rooms.now total common }
-    ensures laws { Laws method rooms.now total common result }
-{
-    let mut own_figures = no_figures();
-    let owns = &mut own_figures[0..rooms.len()];
-    write_own_heats(rule, method, rooms, total, common, owns);
-    let mut common_figures = no_figures();
-    let commons = &mut common_figures[0..rooms.len()];
-    write_common_shares(rule, method, rooms, total, common, commons);
-    pair_up(owns, commons)
 }

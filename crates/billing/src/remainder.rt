@@ -1,98 +1,85 @@
-ghost use Rattle.std.specs.Prelude.{◌≡◌, ◌-◌, ◌*◌, ◌/◌, ◌≤◌, length, if◌then◌else◌, None, nat_eq};
-ghost use Rattle.house.specs.declared.method.Method.TheVariants.{Remainder};
-ghost use Rattle.billing.specs.Pots.{beside};
-ghost use Rattle.billing.specs.Remainder.{unread, claiming_area, own_heat, own_heats, common_shares};
-ghost use Rattle.billing.specs.Period.{Billable};
+ghost use Rattle.std.proofs.Props.{props};
+ghost use Rattle.std.specs.Prelude.{◌≡◌, ◌≤◌, None};
+ghost use Rattle.house.specs.declared.method.Method.TheVariants as methods;
+ghost use Rattle.billing.specs.Remainder.{unread, claiming_area, common_pot, plain_pot, own_heat, own_heats, common_shares};
+ghost use Rattle.billing.specs.Period.{bills, Billable};
 
+use crate::bill::{Bill, pair_up};
 use crate::claims::{Basis, share_by};
+use crate::collecting::{PerRoom, collect};
 use crate::counting::{CountedRoom, Role};
 use crate::sums::Sums;
 use sharing::rule::Sharing;
 
-// What the meters leave of the total, the common area, and all the area that claims what is left.
+// A period under the method Remainder that nothing speaks against.
 #[derive(Clone, Copy)]
-struct Unread {
-    left: u32,
-    common: u32,
-    claiming: u64,
+pub(crate) struct Remainder<'a> {
+    pub(crate) common_area: u32,
+    pub(crate) rooms: &'a PerRoom<CountedRoom>,
+    pub(crate) total: u32,
+    ghost billable: { Billable (methods.Remainder common_area) rooms.now total None } by { Prim.hlevel props },
 }
 
-impl Unread {
-    fn of(common_area: u32, rooms: &[CountedRoom], total: u32) -> Unread
-        requires { Billable (Remainder common_area) rooms.now total None }
-        ensures { result ≡ record { left = unread rooms.now total; common = common_area; claiming = claiming_area common_area rooms.now } }
+impl Remainder<'_> {
+    // What the meters leave of the total.
+    fn unread(&self) -> u32
+        ensures { result ≡ unread self.now.rooms.now self.now.total }
     {
-        let sums = Sums::of(rooms);
-        Unread {
-            left: total - sums.readings as u32,
-            common: common_area,
-            claiming: common_area as u64 + sums.plain_area,
-        }
+        self.total - Sums::of(self.rooms).readings as u32
+    }
+
+    // The area that claims it: the common area, and that of the rooms that count as plain.
+    fn claiming_area(&self) -> u64
+        ensures { result ≡ claiming_area self.now.common_area self.now.rooms.now }
+    {
+        u64::from(self.common_area) + Sums::of(self.rooms).plain_area
     }
 
     // What falls to the common area, in whole units.
-    fn common_pot(self) -> u32
-        requires { self.common ≤ self.claiming }
-        ensures value { result ≡ self.left * self.common / self.claiming }
-        ensures within { result ≤ self.left }
+    fn common_pot(&self) -> u32
+        ensures { result ≡ common_pot self.now.common_area self.now.rooms.now self.now.total }
     {
-        if self.claiming == 0 {
-            return 0;
-        }
-        (self.left as u64 * self.common as u64 / self.claiming) as u32
+        let product = u64::from(self.unread()) * u64::from(self.common_area);
+        product.checked_div(self.claiming_area()).unwrap_or(0) as u32
     }
 
     // What that leaves to the rooms that count as plain: nothing where nobody has a claim.
-    fn plain_pot(self) -> u32
-        requires { self.common ≤ self.claiming }
-        ensures { result ≡ (if nat_eq self.claiming 0 then 0 else self.left - self.left * self.common / self.claiming) }
+    fn plain_pot(&self) -> u32
+        ensures { result ≡ plain_pot self.now.common_area self.now.rooms.now self.now.total }
     {
-        if self.claiming == 0 {
+        if self.claiming_area() == 0 {
             return 0;
         }
-        self.left - self.common_pot()
+        self.unread() - self.common_pot()
+    }
+
+    fn own_heats<R: Sharing>(&self, rule: &R) -> PerRoom<u32>
+        ensures { result ≡ own_heats (R.shares rule.now) self.now.common_area self.now.rooms.now self.now.total }
+    {
+        let shares = share_by(rule, self.plain_pot(), Basis::PlainArea, self.rooms);
+        let heats = self.rooms.as_slice().iter().zip(shares.as_slice());
+        collect(heats.map(|(room, share)| own_heat(*room, *share)))
+    }
+
+    fn common_shares<R: Sharing>(&self, rule: &R) -> PerRoom<u32>
+        ensures { result ≡ common_shares (R.shares rule.now) self.now.common_area self.now.rooms.now self.now.total }
+    {
+        share_by(rule, self.common_pot(), Basis::Area, self.rooms)
+    }
+
+    pub(crate) fn bills<R: Sharing>(&self, rule: &R) -> PerRoom<Bill>
+        ensures { result ≡ bills (R.shares rule.now) (methods.Remainder self.now.common_area) self.now.rooms.now self.now.total None }
+    {
+        pair_up(&self.own_heats(rule), &self.common_shares(rule))
     }
 }
 
-// Each room that is read pays its reading.
-fn put_readings(rooms: &[CountedRoom], place: &mut [u32])
-    requires { length place.old ≡ length rooms.now }
-    ensures { place.new ≡ beside own_heat rooms.now place.old }
+// A room that is read pays its reading.
+fn own_heat(room: CountedRoom, share: u32) -> u32
+    ensures { result ≡ own_heat room share }
 {
-    for (i, room) in rooms.iter().enumerate() {
-        if let Role::Read(figure) = room.role {
-            place[i] = figure;
-        }
+    match room.role {
+        Role::Read(figure) => figure,
+        Role::Plain | Role::Detached(_) => share,
     }
-}
-
-pub(crate) fn write_own_heats<R: Sharing>(
-    rule: &R,
-    common_area: u32,
-    rooms: &[CountedRoom],
-    total: u32,
-    place: &mut [u32],
-)
-    requires room { length place.old ≡ length rooms.now }
-    requires billable { Billable (Remainder common_area) rooms.now total None }
-    ensures { place.new ≡ own_heats (R.shares rule.now) common_area rooms.now total }
-{
-    let unread = Unread::of(common_area, rooms, total);
-    share_by(rule, unread.plain_pot(), Basis::PlainArea, rooms, place);
-    put_readings(rooms, place);
-}
-
-pub(crate) fn write_common_shares<R: Sharing>(
-    rule: &R,
-    common_area: u32,
-    rooms: &[CountedRoom],
-    total: u32,
-    place: &mut [u32],
-)
-    requires room { length place.old ≡ length rooms.now }
-    requires billable { Billable (Remainder common_area) rooms.now total None }
-    ensures { place.new ≡ common_shares (R.shares rule.now) common_area rooms.now total }
-{
-    let unread = Unread::of(common_area, rooms, total);
-    share_by(rule, unread.common_pot(), Basis::Area, rooms, place);
 }

@@ -1,137 +1,98 @@
-ghost use Rattle.std.specs.Prelude.{◌≡◌, ◌+◌, ◌-◌, ◌≤◌, length};
-ghost use Rattle.std.specs.List.{AllByRecursion};
-ghost use Rattle.house.specs.declared.method.Method.TheVariants.{Stated};
+ghost use Rattle.std.proofs.Props.{props};
+ghost use Rattle.std.specs.Prelude.{◌≡◌, ◌-◌, ◌≤◌};
+ghost use Rattle.house.specs.declared.method.Method.TheVariants as methods;
 ghost use Rattle.billing.specs.Counting.{read_sum, pipe_sum};
 ghost use Rattle.billing.specs.Pots.{beside, Both};
-ghost use Rattle.billing.specs.Claims.{gross_by, Floored, Among};
-ghost use Rattle.billing.specs.Stated.{common_figure, gross_heats, deductions, own_heats, common_shares};
-ghost use Rattle.billing.specs.Stated as spec;
-ghost use Rattle.billing.specs.Period.{given, Billable};
+ghost use Rattle.billing.specs.Claims.{floors};
+ghost use Rattle.billing.specs.Stated.{common_figure, rest, gross_heats, deductions, own_heats, common_shares};
+ghost use Rattle.billing.specs.Period.{bills, Billable};
 
+use crate::bill::{Bill, pair_up};
 use crate::claims::{Basis, share_by};
+use crate::collecting::{PerRoom, collect};
 use crate::counting::CountedRoom;
 use crate::floors::Floors;
-use crate::pots::no_figures;
 use crate::sums::Sums;
 use sharing::rule::Sharing;
 
-// What is left of the total after readings and pipe figures: the common figure, and the rest.
+// A period under the method Stated that nothing speaks against.
 #[derive(Clone, Copy)]
-struct Figures {
-    common: u32,
-    rest: u32,
+pub(crate) struct Stated<'a> {
+    pub(crate) floor_percent: u32,
+    pub(crate) rooms: &'a PerRoom<CountedRoom>,
+    pub(crate) total: u32,
+    pub(crate) common: Option<u32>,
+    ghost billable: { Billable (methods.Stated floor_percent) rooms.now total common } by { Prim.hlevel props },
 }
 
-impl Figures {
-    // The common figure is as stated, or else all that is left.
-    fn of(rooms: &[CountedRoom], total: u32, stated: Option<u32>) -> Figures
-        requires few { length rooms.now ≤ 256 }
-        requires within { read_sum rooms.now + pipe_sum rooms.now + given stated ≤ total }
-        ensures { result ≡ record { common = common_figure rooms.now total stated; rest = spec.rest rooms.now total stated } }
+impl Stated<'_> {
+    // What readings and pipe figures leave of the total.
+    fn left(&self) -> u32
+        ensures { result ≡ self.now.total - read_sum self.now.rooms.now - pipe_sum self.now.rooms.now }
     {
-        let sums = Sums::of(rooms);
-        let left = (total as u64 - sums.readings - sums.pipes) as u32;
-        let common = match stated {
-            Some(figure) => figure,
-            None => left,
-        };
-        Figures {
-            common,
-            rest: left - common,
-        }
+        let sums = Sums::of(self.rooms);
+        self.total - (sums.readings + sums.pipes) as u32
+    }
+
+    // As stated, or else all that is left.
+    fn common_figure(&self) -> u32
+        ensures { result ≡ common_figure self.now.rooms.now self.now.total self.now.common }
+    {
+        self.common.unwrap_or(self.left())
+    }
+
+    // What the rooms that count as plain share.
+    fn rest(&self) -> u32
+        ensures { result ≡ rest self.now.rooms.now self.now.total self.now.common }
+    {
+        self.left() - self.common_figure()
+    }
+
+    fn floors(&self) -> Floors
+        ensures { result ≡ floors self.now.floor_percent self.now.rooms.now }
+    {
+        Floors::of(self.floor_percent, self.rooms)
+    }
+
+    fn gross_heats<R: Sharing>(&self, rule: &R) -> PerRoom<u32>
+        ensures { result ≡ gross_heats (R.shares rule.now) self.now.floor_percent self.now.rooms.now self.now.total self.now.common }
+    {
+        let shares = share_by(rule, self.rest(), Basis::PlainArea, self.rooms);
+        self.floors().gross_of(self.rooms, &shares)
+    }
+
+    // What the rooms above their floors bear of the surcharges.
+    fn deductions<R: Sharing>(&self, rule: &R) -> PerRoom<u32>
+        ensures { result ≡ deductions (R.shares rule.now) self.now.floor_percent self.now.rooms.now }
+    {
+        let floors = self.floors();
+        let pot = floors.surcharges(self.rooms) as u32;
+        share_by(rule, pot, Basis::Excess(floors), self.rooms)
+    }
+
+    fn own_heats<R: Sharing>(&self, rule: &R) -> PerRoom<u32>
+        ensures { result ≡ own_heats (R.shares rule.now) self.now.floor_percent self.now.rooms.now self.now.total self.now.common }
+    {
+        deduct(&self.gross_heats(rule), &self.deductions(rule))
+    }
+
+    fn common_shares<R: Sharing>(&self, rule: &R) -> PerRoom<u32>
+        ensures { result ≡ common_shares (R.shares rule.now) self.now.rooms.now self.now.total self.now.common }
+    {
+        share_by(rule, self.common_figure(), Basis::Area, self.rooms)
+    }
+
+    pub(crate) fn bills<R: Sharing>(&self, rule: &R) -> PerRoom<Bill>
+        ensures { result ≡ bills (R.shares rule.now) (methods.Stated self.now.floor_percent) self.now.rooms.now self.now.total self.now.common }
+    {
+        pair_up(&self.own_heats(rule), &self.common_shares(rule))
     }
 }
 
-// Makes each share of the rest what its room pays before any deduction.
-fn make_gross(floors: Floors, rooms: &[CountedRoom], place: &mut [u32])
-    requires room { length place.old ≡ length rooms.now }
-    requires among { AllByRecursion (Among floors) rooms.now }
-    ensures { place.new ≡ beside (gross_by floors) rooms.now place.old }
+fn deduct(heats: &PerRoom<u32>, deductions: &PerRoom<u32>) -> PerRoom<u32>
+    requires { Both (λ heat deduction. deduction ≤ heat) heats.now deductions.now }
+    ensures { result ≡ beside (λ heat deduction. heat - deduction) heats.now deductions.now }
 {
-    for (i, room) in rooms.iter().enumerate() {
-        place[i] = floors.gross(*room, place[i]);
-    }
-}
-
-fn write_gross_heats<R: Sharing>(
-    rule: &R,
-    floor_percent: u32,
-    rooms: &[CountedRoom],
-    total: u32,
-    common: Option<u32>,
-    place: &mut [u32],
-)
-    requires room { length place.old ≡ length rooms.now }
-    requires billable { Billable (Stated floor_percent) rooms.now total common }
-    ensures { place.new ≡ gross_heats (R.shares rule.now) floor_percent rooms.now total common }
-{
-    let figures = Figures::of(rooms, total, common);
-    share_by(rule, figures.rest, Basis::PlainArea, rooms, place);
-    make_gross(Floors::of(floor_percent, rooms), rooms, place);
-}
-
-// What the rooms above their floors bear of the surcharges.
-fn write_deductions<R: Sharing>(
-    rule: &R,
-    floor_percent: u32,
-    rooms: &[CountedRoom],
-    place: &mut [u32],
-)
-    requires room { length place.old ≡ length rooms.now }
-    requires floored { Floored floor_percent rooms.now }
-    ensures { place.new ≡ deductions (R.shares rule.now) floor_percent rooms.now }
-{
-    let floors = Floors::of(floor_percent, rooms);
-    share_by(
-        rule,
-        floors.surcharges(rooms) as u32,
-        Basis::Excess(floors),
-        rooms,
-        place,
-    );
-}
-
-fn deduct(deductions: &[u32], place: &mut [u32])
-    requires room { length place.old ≡ length deductions.now }
-    requires covered { Both (λ heat deduction. deduction ≤ heat) place.old deductions.now }
-    ensures { place.new ≡ beside (λ heat deduction. heat - deduction) place.old deductions.now }
-{
-    for (i, deduction) in deductions.iter().enumerate() {
-        place[i] -= *deduction;
-    }
-}
-
-pub(crate) fn write_own_heats<R: Sharing>(
-    rule: &R,
-    floor_percent: u32,
-    rooms: &[CountedRoom],
-    total: u32,
-    common: Option<u32>,
-    place: &mut [u32],
-)
-    requires room { length place.old ≡ length rooms.now }
-    requires billable { Billable (Stated floor_percent) rooms.now total common }
-    ensures { place.new ≡ own_heats (R.shares rule.now) floor_percent rooms.now total common }
-{
-    write_gross_heats(rule, floor_percent, rooms, total, common, place);
-    let mut figures = no_figures();
-    let deductions = &mut figures[0..rooms.len()];
-    write_deductions(rule, floor_percent, rooms, deductions);
-    deduct(deductions, place);
-}
-
-pub(crate) fn write_common_shares<R: Sharing>(
-    rule: &R,
-    floor_percent: u32,
-    rooms: &[CountedRoom],
-    total: u32,
-    common: Option<u32>,
-    place: &mut [u32],
-)
-    requires room { length place.old ≡ length rooms.now }
-    requires billable { Billable (Stated floor_percent) rooms.now total common }
-    ensures { place.new ≡ common_shares (R.shares rule.now) rooms.now total common }
-{
-    let figures = Figures::of(rooms, total, common);
-    share_by(rule, figures.common, Basis::Area, rooms, place);
+    let pairs = heats.as_slice().iter().zip(deductions.as_slice());
+    collect(pairs.map(|(heat, deduction)| *heat - *deduction))
 }

@@ -1,9 +1,10 @@
-use Rattle.std.proofs.Common.{◌≡◌, ◌+◌, ◌++◌, length, take, drop}
-use Rattle.billing.specs.Pots.{weights, put_back}
+use Rattle.std.proofs.Common.{◌≡◌, ◌++◌, length, drop}
+use Rattle.std.specs.Slice.Iter.{iter_rest}
+use Rattle.billing.specs.Pots.{put_back}
 use Rattle.billing.proofs.pots.put_back.Given as goal
 
--- what is written and what is still to come make up the whole, and there is a share for each claim to come
-abbrev pub invariant-loop-i : goal.invariant-loop-i
-invariant-loop-i l =
-    (take l.i l.place ++ put_back (drop l.i l.claims) (drop l.next l.shares) ≡ put_back l.claims l.shares)
-    × (l.next + length (weights (drop l.i l.claims)) ≡ length l.shares)
+-- what is written and what is still to come make up the whole
+abbrev pub invariant-loop-claim : goal.invariant-loop-claim
+invariant-loop-claim l =
+    (l.all ++ put_back (drop l.claim-index l.claims) (iter_rest l.left) ≡ put_back l.claims l.shares)
+    × (length l.all ≡ l.claim-index)

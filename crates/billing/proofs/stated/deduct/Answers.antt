@@ -1,33 +1,32 @@
-use Rattle.std.proofs.Common.{ℕ, ◌+◌, ◌-◌, ◌<◌, ◌≤◌, List, length, drop, sym, refl, ◌∙◌, subst, arith}
-use Rattle.std.proofs.lemmas.List.{drop-set-lt}
-use Rattle.billing.specs.Pots.{beside, Both}
-use Rattle.billing.proofs.Beside.{both_drop, beside_turned}
-use Rattle.billing.proofs.Written.{change_more, change_all}
+use Rattle.std.proofs.Common.{ℕ, ◌-◌, ◌≤◌, rules}
+use Rattle.std.specs.List.{zip}
+use Rattle.std.proofs.lemmas.Iterator.{YieldsList-from_slice, YieldsList-from_zip, YieldsList-from_map}
+use Rattle.std.proofs.lemmas.Iterator.Adapters.{serves_from_places}
+use Rattle.billing.proofs.Beside.{both_length}
+use Rattle.billing.proofs.Collected.{collected_beside, at_place, all_pairs}
 use Rattle.billing.proofs.stated.deduct.Goals as goal
-
-abbrev less : ℕ → ℕ → ℕ
-less deduction heat = heat - deduction
 
 abbrev Covered : ℕ → ℕ → Type 0
 Covered heat deduction = deduction ≤ heat
 
-pub overflow_sub-place : goal.overflow_sub-place
-overflow_sub-place c = (both_drop Covered c.loop-i.place c.args.deductions.now c.loop-i.i 0 0 (omega arith) c.loop-i-test.true c.loop-i.invariant.1).0
-
-pub loop-i-preserved : goal.loop-i-preserved
-loop-i-preserved c =
-    let ds = c.args.deductions.now in
-    let place = c.loop-i.place in
-    let i = c.loop-i.i in
-    let h = c.loop-i-test.true in
-    let k : i < length place = omega arith in (
-      change_more less ds place (beside less ds c.args.place.now) i 0 _ h k refl c.loop-i.invariant.0,
-      subst (λ (v : List ℕ). Both Covered v (drop (i + 1) ds)) (sym (drop-set-lt (i + 1) place i _ (omega arith))) (both_drop Covered place ds i 0 0 k h c.loop-i.invariant.1).1,
+pub collect-requires : goal.collect-requires
+collect-requires c =
+    let heats = c.args.heats.now in
+    let deductions = c.args.deductions.now in (
+      search rules,
+      (
+        (
+          (tt, tt),
+          serves_from_places (YieldsList-from_zip (YieldsList-from_slice heats cc) (YieldsList-from_slice deductions cc)) (λ x q h. search rules)
+              (λ x k h is. let covered = at_place (λ (p : ℕ × ℕ). p.1 ≤ p.0) (zip heats deductions) (all_pairs Covered heats deductions c.requires) (x.0.now, x.1.now) k h is in search rules),
+        ),
+        (tt, search rules),
+      ),
     )
 
 pub returns : goal.returns
 returns c =
-    let ds = c.args.deductions.now in
-    let old = c.args.place.now in
-    change_all less ds c.loop-i.place (beside less ds old) c.loop-i.i c.loop-i-test.false (omega arith) c.loop-i.invariant.0
-    ∙ beside_turned (λ heat deduction. heat - deduction) old ds c.requires.room
+    let heats = c.args.heats.now in
+    let deductions = c.args.deductions.now in
+    collected_beside (λ heat deduction. heat - deduction) heats deductions (both_length Covered heats deductions c.requires) _ c.collect.ensures.ran
+    (YieldsList-from_map _ (λ (p : ℕ × ℕ). p.0 - p.1) (YieldsList-from_zip (YieldsList-from_slice heats cc) (YieldsList-from_slice deductions cc)) c.map.ensures.closure (λ x r q k. search rules))
