@@ -3,12 +3,11 @@ use Rattle.std.proofs.Common.{◌≡◌, ℕ, ◌+◌, ◌≤◌, List, [], ◌�
 use Rattle.std.proofs.lemmas.List.Sums.{sum_by-cons}
 use Rattle.sharing.specs.Totals.{sum_cons}
 use Rattle.house.specs.declared.method.Method.{Method}
-use Rattle.billing.specs.declared.bill.Bill.{Bill}
 use Rattle.billing.specs.declared.counting.CountedRoom.{CountedRoom}
 use Rattle.billing.specs.Counting.{if_read, read_sum}
 use Rattle.billing.specs.Pots.{beside, Both}
 use Rattle.billing.specs.Fraction.{Fraction, Within, plus}
-use Rattle.billing.specs.Period.{bill, exact_amounts, figures, floor, read_heats, Laws}
+use Rattle.billing.specs.Period.{Bill, bill, exact_amounts, figures, floor, read_heats, Laws}
 use Rattle.billing.proofs.Beside.{both_length, both_turned, both_weaker, meet}
 use Rattle.billing.proofs.FractionLaws.{Lies, lies_plus, lies_within}
 
@@ -47,7 +46,7 @@ module _ (method : Method) (rooms : List CountedRoom) (total : ℕ) (q : Option 
       let Mine : CountedRoom → ℕ → Type 0 = λ r o. Own a b (floor method rooms r) o (exact_own r) in
       let Theirs : CountedRoom → ℕ → Type 0 = λ r s. Lies c d s (exact_common r) in
       let Near : Bill → Fraction → Type 0 = λ bill x. Within 3 (figures bill) x in
-      let Billed : CountedRoom → Bill → Type 0 = λ r bill. Near bill (exact_bill r) × (floor method rooms r ≤ bill.own) in
+      let Billed : CountedRoom → Bill → Type 0 = λ r bill. Near bill (exact_bill r) × (floor method rooms r ≤ bill.0) in
       let bills = paired owns commons in
       let each : Both Billed rooms bills =
       meet Mine Theirs Billed bill (λ r o s h k. (lies_within (a + c) (b + d) 3 (o + s) (exact_bill r) up down (lies_plus a b c d o s (exact_own r) (exact_common r) h.near k), h.enough)) rooms owns commons os cs in
@@ -58,6 +57,6 @@ module _ (method : Method) (rooms : List CountedRoom) (total : ℕ) (q : Option 
         closes = sum_paired owns commons m ∙ whole;
         near = subst (λ (v : List Fraction). Both Near bills v) (sym exact)
             (both_turned Near exact_bill rooms bills (both_weaker Billed (λ r bill. Near bill (exact_bill r)) (λ r bill h. h.0) rooms bills each));
-        floors = both_weaker Billed (λ r (bill : Bill). floor method rooms r ≤ bill.own) (λ r bill h. h.1) rooms bills each;
+        floors = both_weaker Billed (λ r (bill : Bill). floor method rooms r ≤ bill.0) (λ r bill h. h.1) rooms bills each;
         readings = read_paired rooms owns commons n m ∙ reads;
       }

@@ -4,12 +4,11 @@ use Rattle.std.proofs.lemmas.Bool.Decides.{nat_tests}
 use Rattle.sharing.specs.Rule.{Shares, Fair}
 use Rattle.house.specs.declared.method.Method.{Method}
 use Rattle.house.specs.declared.method.Method.TheVariants.{Remainder, Stated}
-use Rattle.billing.specs.declared.bill.Bill.{Bill}
 use Rattle.billing.specs.declared.counting.CountedRoom.{CountedRoom}
 use Rattle.billing.specs.Counting.{plain_area, read_sum, pipe_sum}
 use Rattle.billing.specs.Remainder.{unread, claiming_area}
 use Rattle.billing.specs.Stated.{rest}
-use Rattle.billing.specs.Period.{given, unworkable, bills, Lawful, Billable, Laws}
+use Rattle.billing.specs.Period.{Bill, given, unworkable, bills, Lawful, Billable, Laws}
 use Rattle.billing.proofs.RoomLaws.{plain_counted}
 use Rattle.billing.proofs.RemainderLaws.{remainder_laws}
 use Rattle.billing.proofs.StatedLaws.{stated_laws}

@@ -6,7 +6,6 @@ use Rattle.fault.specs.declared.reason.Reason.TheVariants.{FigureTooLarge, Commo
 use Rattle.sharing.specs.Rule.{Shares}
 use Rattle.house.specs.declared.method.Method.{Method}
 use Rattle.house.specs.declared.method.Method.TheVariants.{Remainder, Stated}
-use Rattle.billing.specs.declared.bill.Bill.{Bill}
 use Rattle.billing.specs.declared.counting.CountedRoom.{CountedRoom}
 use Rattle.billing.specs.Counting.{if_read, plain_count, all_area, read_sum, pipe_sum}
 use Rattle.billing.specs.Pots.{beside, Both}
@@ -61,15 +60,19 @@ abbrev pub common_shares : Shares → Method → List CountedRoom → ℕ → Op
 common_shares shares (Remainder common) rooms total q = remainder.common_shares shares common rooms total
 common_shares shares (Stated percent) rooms total q = stated.common_shares shares rooms total q
 
+-- what a room is billed: own heat and common share
+abbrev pub Bill : Type 0
+Bill = ℕ × ℕ
+
 abbrev pub bill : ℕ → ℕ → Bill
-bill own common = record { own = own; common = common }
+bill own common = (own, common)
 
 -- own heat and common share of each room
 abbrev pub bills : Shares → Method → List CountedRoom → ℕ → Option ℕ → List Bill
 bills shares method rooms total q = beside bill (own_heats shares method rooms total q) (common_shares shares method rooms total q)
 
 abbrev pub figures : Bill → ℕ
-figures bill = bill.own + bill.common
+figures bill = bill.0 + bill.1
 
 -- of a room that is billed nothing
 abbrev pub no_bill : Bill
@@ -88,7 +91,7 @@ floor (Stated percent) rooms r = if_read r.role (λ _. stated.floor percent room
 abbrev pub read_heats : List CountedRoom → List Bill → ℕ
 read_heats [] bs = 0
 read_heats (r ∷ rooms) [] = 0
-read_heats (r ∷ rooms) (b ∷ bs) = if_read r.role (λ _. b.own) 0 + read_heats rooms bs
+read_heats (r ∷ rooms) (b ∷ bs) = if_read r.role (λ _. b.0) 0 + read_heats rooms bs
 
 abbrev pub stated_percent : Method → ℕ
 stated_percent (Remainder common) = 0
@@ -113,5 +116,5 @@ pub record Laws (method : Method) (rooms : List CountedRoom) (total : ℕ) (q : 
   pub long : length bs ≡ length rooms
   pub closes : sum_by figures bs ≡ total
   pub near : Both (λ (b : Bill) x. Within 3 (figures b) x) bs (exact_amounts method rooms total q)
-  pub floors : Both (λ (r : CountedRoom) (b : Bill). floor method rooms r ≤ b.own) rooms bs
+  pub floors : Both (λ (r : CountedRoom) (b : Bill). floor method rooms r ≤ b.0) rooms bs
   pub readings : read_heats rooms bs ≡ read_sum rooms

@@ -5,18 +5,14 @@ ghost use Rattle.billing.specs.Period.{bill, figures};
 use crate::collecting::{PerRoom, collect};
 
 // What a room is billed for a period: its own heat, and its share of what is common.
-#[derive(Clone, Copy, PartialEq, Eq, Debug, Default)]
-pub struct Bill {
-    pub own: u32,
-    pub common: u32,
-}
+pub type Bill = (u32, u32);
 
-impl Bill {
-    pub fn total(self) -> u64
-        ensures { result ≡ figures self }
-    {
-        u64::from(self.own) + u64::from(self.common)
-    }
+// Own heat and common share together.
+pub fn total(bill: Bill) -> u64
+    ensures { result ≡ figures bill }
+{
+    let (own, common) = bill;
+    u64::from(own) + u64::from(common)
 }
 
 // Own heat and common share of each room.
@@ -25,8 +21,5 @@ pub(crate) fn pair_up(owns: &PerRoom<u32>, commons: &PerRoom<u32>) -> PerRoom<Bi
     ensures { result ≡ beside bill owns.now commons.now }
 {
     let pairs = owns.as_slice().iter().zip(commons.as_slice());
-    collect(pairs.map(|(own, common)| Bill {
-        own: *own,
-        common: *common,
-    }))
+    collect(pairs.map(|(own, common)| (*own, *common)))
 }

@@ -88,15 +88,16 @@ impl Floors {
         collect(pairs.map(|(room, share)| self.gross(*room, *share)))
     }
 
-    // The true sum: 256 surcharges within the limits cannot wrap it.
+    // The true sum: 256 surcharges within the limits cannot wrap it. As all sums over rooms, it is a loop, room by room: that form is fixed.
     pub(crate) fn surcharges(self, rooms: &PerRoom<CountedRoom>) -> u64
         requires { AllByRecursion (Among self) rooms.now }
         ensures { result ≡ sum (map (surcharge_by self) rooms.now) }
     {
-        rooms
-            .as_slice()
-            .iter()
-            .map(|room| u64::from(self.surcharge(*room)))
-            .sum()
+        let mut sum = 0;
+        let list = rooms.as_slice();
+        for room in list {
+            sum += u64::from(self.surcharge(*room));
+        }
+        sum
     }
 }

@@ -40,8 +40,8 @@ module _ (rooms : List Room) (ascend : ascend_from 0 rooms ≡ true) (number : �
   comparisons_rise : IsNonDecreasingBy (λ (r : Room). ordering_index (nat_cmp r.number number)) rooms
   comparisons_rise =
       IsNonDecreasingBy-from_default (λ (r : Room). ordering_index (nat_cmp r.number number)) rooms d (λ i j le h.
-        let up = rise i j le h in
-        grind (arith, nat_tests))
+      let up = rise i j le h in
+      grind (arith, nat_tests))
 
   -- a search by halving finds the room that a search from the front does
   pub halved_ok : (at : ℕ) → IsSearchInRange (Ok at) (length rooms) → IsBinarySearchResult (λ (r : Room). nat_cmp r.number number) rooms (Ok at) → found_from rooms 0 number ≡ Ok (at, get_or rooms at d)

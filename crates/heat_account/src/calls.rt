@@ -12,6 +12,7 @@ use crate::answer::Answer;
 use crate::call::Call;
 use crate::slip::Slip;
 use crate::tables_of::Tables;
+use billing::bill::Bill;
 use fault::place::Place;
 use fault::refusal::Fault;
 use house::House;
@@ -33,11 +34,12 @@ impl<R: Sharing> Account<R> {
     }
 
     // The own heat and common share of a room in the period last closed.
-    pub fn bill(&self, room: u32) -> Result<(u32, u32), Fault>
+    pub fn bill(&self, room: u32) -> Result<Bill, Fault>
         ensures value { result ≡ result_of self.now.house self.now.state (Bill room) (λ place. slice_index_or self.now.state.bills place (0, 0)) }
         ensures ledger { Carries (R.shares self.now.rule) self.now.house self.now.state (Bill room) (answer_of (λ b. Billed b.0 b.1) result) self.now.state }
     {
-        self.look_up_bill(room).map_err(|reason| Fault::new(reason, Place::Room(room)))
+        self.look_up_bill(room)
+            .map_err(|reason| Fault::new(reason, Place::Room(room)))
     }
 
     // The sum of all figures in the bills of a room.
@@ -45,7 +47,8 @@ impl<R: Sharing> Account<R> {
         ensures value { result ≡ result_of self.now.house self.now.state (Balance room) (λ place. slice_index self.now.state.balances place) }
         ensures ledger { Carries (R.shares self.now.rule) self.now.house self.now.state (Balance room) (answer_of Balanced result) self.now.state }
     {
-        self.look_up_balance(room).map_err(|reason| Fault::new(reason, Place::Room(room)))
+        self.look_up_balance(room)
+            .map_err(|reason| Fault::new(reason, Place::Room(room)))
     }
 
     // Makes one call, whatever it is: what it does depends on the stage together with the call.

@@ -6,10 +6,10 @@ ghost use Rattle.heat_account.specs.Changes.{change, each_change, changes, chang
 ghost use Rattle.heat_account.specs.declared.stage.Stage.TheVariants.{Correcting};
 
 use crate::Account;
-use crate::bill::total;
 use crate::pairing::zip_with;
 use crate::stage::Stage;
 use crate::tables_of::ROOMS;
+use billing::bill::{Bill, total};
 use fault::place::Place;
 use fault::reason::Reason;
 use fault::refusal::Fault;
@@ -17,13 +17,13 @@ use sharing::rule::Sharing;
 use tables::Table;
 
 // The new bill less the old one.
-fn change_between(old: (u32, u32), new: (u32, u32)) -> i64
+fn change_between(old: Bill, new: Bill) -> i64
     ensures { result ≡ change old new }
 {
     total(new).cast_signed() - total(old).cast_signed()
 }
 
-fn change_each(old: &[(u32, u32)], new: &[(u32, u32)]) -> Table<i64, ROOMS>
+fn change_each(old: &[Bill], new: &[Bill]) -> Table<i64, ROOMS>
     requires long { length new.now ≡ length old.now }
     requires few { length old.now ≤ 256 }
     ensures { result ≡ each_change old.now new.now }
@@ -59,7 +59,8 @@ impl<R: Sharing> Account<R> {
         ensures moves { Moves (R.shares self.now.rule) self.now.house self.now.state }
         ensures evens { Evens (R.shares self.now.rule) self.now.house self.now.state }
     {
-        self.work_changes().map_err(|reason| Fault::new(reason, Place::Nowhere))
+        self.work_changes()
+            .map_err(|reason| Fault::new(reason, Place::Nowhere))
     }
 
     fn work_change(&self, room: u32) -> Result<i64, Reason>
@@ -74,6 +75,7 @@ impl<R: Sharing> Account<R> {
     pub fn change(&self, room: u32) -> Result<i64, Fault>
         ensures value { result ≡ change_told (R.shares self.now.rule) self.now.house self.now.state room }
     {
-        self.work_change(room).map_err(|reason| Fault::new(reason, Place::Room(room)))
+        self.work_change(room)
+            .map_err(|reason| Fault::new(reason, Place::Room(room)))
     }
 }

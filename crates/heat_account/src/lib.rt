@@ -8,7 +8,6 @@ pub use tables_of::ROOMS;
 use tables_of::Tables;
 
 pub mod answer;
-mod bill;
 pub mod call;
 mod calls;
 mod changing;

@@ -5,6 +5,7 @@ ghost use Rattle.heat_account.specs.Ledger.{balances, latest_bills, ledger_after
 ghost use Rattle.heat_account.specs.declared.call.Call.{Call};
 
 use crate::Account;
+use billing::bill::Bill;
 use house::room::Room;
 use sharing::rule::Sharing;
 
@@ -17,7 +18,7 @@ impl<R: Sharing> Account<R> {
     }
 
     // The own heat and common share of each room in the period last closed.
-    pub fn bills(&self) -> &[(u32, u32)]
+    pub fn bills(&self) -> &[Bill]
         ensures value { result.now ≡ self.now.state.bills }
         ensures ledger { (calls : List Call) → Stands (R.shares self.now.rule) self.now.house self.now.state calls → result.now ≡ latest_bills (R.shares self.now.rule) self.now.house (ledger_after (R.shares self.now.rule) self.now.house calls).closed }
     {

@@ -12,7 +12,8 @@ impl<R: Sharing> Account<R> {
     fn look_up_figures(&self, room: u32) -> Result<u32, Fault>
         ensures { result ≡ figures_of self.now.house self.now.state room }
     {
-        let (own, common) = self.look_up_bill(room)
+        let (own, common) = self
+            .look_up_bill(room)
             .map_err(|reason| Fault::new(reason, Place::Room(room)))?;
         Ok(own + common)
     }

@@ -5,9 +5,9 @@ ghost use Rattle.billing.specs.Period.{figures};
 ghost use Rattle.heat_account.specs.State.{billed, unbilled, no_state, with_reading, with_period, with_amended, with_stage, reread};
 ghost use Rattle.heat_account.specs.Tables.{state_of, period_of};
 
-use crate::bill::total;
 use crate::pairing::zip_with;
 use crate::stage::Stage;
+use billing::bill::{Bill, total};
 use house::House;
 use tables::Table;
 
@@ -27,14 +27,14 @@ pub(crate) struct Tables {
     // Of the open period.
     pub(crate) readings: Table<Option<u32>, ROOMS>,
     pub(crate) last: LastPeriod,
-    pub(crate) bills: Table<(u32, u32), ROOMS>,
+    pub(crate) bills: Table<Bill, ROOMS>,
     pub(crate) balances: Table<u64, ROOMS>,
     pub(crate) closed: u32,
     pub(crate) stage: Stage,
 }
 
 // A bill more in each balance.
-fn put_on(balances: &[u64], bills: &[(u32, u32)]) -> Table<u64, ROOMS>
+fn put_on(balances: &[u64], bills: &[Bill]) -> Table<u64, ROOMS>
     requires long { length bills.now ≡ length balances.now }
     requires few { length balances.now ≤ 256 }
     requires room { (k : ℕ) → slice_index balances.now k < 2 ^ 63 }
@@ -44,7 +44,7 @@ fn put_on(balances: &[u64], bills: &[(u32, u32)]) -> Table<u64, ROOMS>
 }
 
 // A bill less.
-fn take_off(balances: &[u64], bills: &[(u32, u32)]) -> Table<u64, ROOMS>
+fn take_off(balances: &[u64], bills: &[Bill]) -> Table<u64, ROOMS>
     requires long { length bills.now ≡ length balances.now }
     requires few { length balances.now ≤ 256 }
     requires covered { (k : ℕ) → figures (slice_index_or bills.now k (0, 0)) ≤ slice_index balances.now k }
@@ -88,7 +88,7 @@ impl Tables {
     }
 
     // Closes the open period with these bills.
-    pub(crate) fn close(&mut self, total: u32, common: Option<u32>, bills: Table<(u32, u32), ROOMS>)
+    pub(crate) fn close(&mut self, total: u32, common: Option<u32>, bills: Table<Bill, ROOMS>)
         requires long { length bills ≡ length self.old.balances }
         requires few { self.old.closed < 600 }
         requires room { (k : ℕ) → slice_index self.old.balances k < 2 ^ 63 }
@@ -104,7 +104,7 @@ impl Tables {
     }
 
     // Puts a corrected reading and its bills in place.
-    pub(crate) fn amend(&mut self, place: usize, reading: u32, corrected: Table<(u32, u32), ROOMS>)
+    pub(crate) fn amend(&mut self, place: usize, reading: u32, corrected: Table<Bill, ROOMS>)
         requires long { length corrected ≡ length self.old.balances }
         requires same { length self.old.bills ≡ length self.old.balances }
         requires room { (k : ℕ) → slice_index self.old.balances k < 2 ^ 63 }

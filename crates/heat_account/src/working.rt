@@ -13,6 +13,7 @@ use crate::Account;
 use crate::answer::Answer;
 use crate::finding::{find_room, take_reading};
 use crate::tables_of::ROOMS;
+use billing::bill::Bill;
 use billing::working::work_out;
 use fault::reason::Reason;
 use sharing::rule::Sharing;
@@ -41,7 +42,7 @@ impl<R: Sharing> Account<R> {
         &self,
         total: u32,
         common: Option<u32>,
-    ) -> Result<Table<(u32, u32), ROOMS>, Reason>
+    ) -> Result<Table<Bill, ROOMS>, Reason>
         ensures { result ≡ ruled (refusal self.now.house.method (counted self.now.house.rooms self.now.state.readings) total common) (period_bills (R.shares self.now.rule) self.now.house (record { readings = self.now.state.readings; total = total; common = common })) }
     {
         let readings = self.tables.readings.as_slice();
@@ -53,7 +54,7 @@ impl<R: Sharing> Account<R> {
         &self,
         place: usize,
         reading: u32,
-    ) -> Result<Table<(u32, u32), ROOMS>, Reason>
+    ) -> Result<Table<Bill, ROOMS>, Reason>
         ensures held { Holds self.now.house self.now.state }
         ensures value { result ≡ ruled (unamendable self.now.house self.now.state.last place reading) (period_bills (R.shares self.now.rule) self.now.house (reread self.now.state.last place reading)) }
     {
@@ -70,7 +71,7 @@ impl<R: Sharing> Account<R> {
     }
 
     // The bills of the correction that is open.
-    pub(crate) fn corrected_bills(&self, place: usize, reading: u32) -> Table<(u32, u32), ROOMS>
+    pub(crate) fn corrected_bills(&self, place: usize, reading: u32) -> Table<Bill, ROOMS>
         requires { self.now.state.stage ≡ Correcting place reading }
         ensures value { result ≡ period_bills (R.shares self.now.rule) self.now.house (reread self.now.state.last place reading) }
         ensures long { length result ≡ length self.now.house.rooms }
@@ -113,7 +114,7 @@ impl<R: Sharing> Account<R> {
     }
 
     // Own heat and common share of a room's last bill.
-    pub(crate) fn look_up_bill(&self, room: u32) -> Result<(u32, u32), Reason>
+    pub(crate) fn look_up_bill(&self, room: u32) -> Result<Bill, Reason>
         ensures value { result ≡ judged_value self.now.house self.now.state (Bill room) (λ place. slice_index_or self.now.state.bills place (0, 0)) }
         ensures small { IfOk result (λ b. figures b ≤ 100000000) }
         ensures held { Holds self.now.house self.now.state }

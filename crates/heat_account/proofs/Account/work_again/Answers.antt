@@ -15,6 +15,6 @@ returns-clause-value g c =
     let readings : c.as_slice.result.now ≡ reread =
     c.as_slice.ensures.value ∙ c.set.ensures.after ∙ ap (λ (v : List (Option ℕ)). set v c.args.place (Some c.args.reading)) c.copy_from.ensures in
     rw (← c.self.view_is) (
-      c.work_out.ensures
-      ∙ ap (λ (v : List (Option ℕ)). ruled (refusal plan.method (counted plan.rooms v) last.total last.common) (bills (g.R.Sharing.shares a.rule) plan.method (counted plan.rooms v) last.total last.common)) readings
-      ∙ ap (λ o. ruled o (bills (g.R.Sharing.shares a.rule) plan.method (counted plan.rooms reread) last.total last.common)) (small_refusal plan.method (counted plan.rooms reread) last.total last.common c.self.invariant.small.0 c.self.invariant.small.1))
+    c.work_out.ensures
+    ∙ ap (λ (v : List (Option ℕ)). ruled (refusal plan.method (counted plan.rooms v) last.total last.common) (bills (g.R.Sharing.shares a.rule) plan.method (counted plan.rooms v) last.total last.common)) readings
+    ∙ ap (λ o. ruled o (bills (g.R.Sharing.shares a.rule) plan.method (counted plan.rooms reread) last.total last.common)) (small_refusal plan.method (counted plan.rooms reread) last.total last.common c.self.invariant.small.0 c.self.invariant.small.1))

@@ -1,11 +1,10 @@
-use Rattle.std.proofs.Common.{rules}
-use Rattle.std.proofs.lemmas.Iterator.{YieldsList-from_slice}
-use Rattle.std.proofs.lemmas.Iterator.Adapters.{serves_from_places}
+use Rattle.std.proofs.Common.{sym, subst}
+use Rattle.std.proofs.ByRecursion.{All-get_or}
+use Rattle.std.specs.List.{AllByRecursion}
 use Rattle.billing.specs.Claims.{Among}
-use Rattle.billing.proofs.Collected.{at_place}
 use Rattle.billing.proofs.floors.Floors.surcharges.Goals as goal
 
-pub sum-requires-clause-can : goal.sum-requires-clause-can
-sum-requires-clause-can c =
-    let rooms = c.args.rooms.now in
-    (tt, serves_from_places (YieldsList-from_slice rooms cc) (λ x q h. search rules) (λ x k h is. let among = at_place (Among c.args.self) rooms c.requires x.now k h is in search rules))
+pub surcharge-requires : goal.surcharge-requires
+surcharge-requires c =
+    let among = Among c.args.self in
+    All-get_or among c.as_slice-list.result.now c.loop-room.room-index _ c.loop-room-test.true (subst (AllByRecursion among) (sym c.as_slice-list.ensures.value) c.requires)
