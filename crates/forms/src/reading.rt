@@ -12,7 +12,7 @@ pub(crate) fn front(word: &[u8], text: &[u8]) -> usize
     word.iter().zip(text).take_while(|(w, b)| w == b).count()
 }
 
-// How many digits stand at the front, of at most so many.
+// How many digits stand at the front, of at most so many. A pattern names the first byte and the tail, as the project asks.
 fn digits_at(most: usize, text: &[u8]) -> usize
     ensures value { result ≡ digits_at most text.now }
     ensures few { result ≤ most }
