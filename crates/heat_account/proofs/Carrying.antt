@@ -6,7 +6,6 @@ use Rattle.fault.specs.Numbers.{fault_of}
 use Rattle.fault.specs.declared.place.Place.{Place}
 use Rattle.fault.specs.declared.refusal.Fault.{Fault}
 use Rattle.heat_account.specs.declared.answer.Answer.{Answer}
-use Rattle.heat_account.specs.declared.answer.Answer.TheVariants.{Done, Closed}
 use Rattle.heat_account.specs.declared.call.Call.{Call}
 use Rattle.heat_account.specs.State.{State, no_state}
 use Rattle.fault.specs.declared.reason.Reason.{Reason}

@@ -17,7 +17,7 @@ use Rattle.heat_account.specs.declared.call.Call.TheVariants.{Close}
 use Rattle.heat_account.specs.State.{Period, State, HouseAccount, with_state, moved_on, period_bills, unbilled, no_state, with_period, with_stage, with_amended}
 use Rattle.heat_account.specs.Judged.{unamendable, amend_of, meter_of, and_then, correcting, judged, by, performed}
 use Rattle.heat_account.proofs.LedgerLaws.{unless_ok, and_then_ok}
-use Rattle.heat_account.specs.Kept.{Long, Small, Bounded, Holds, stands, clear}
+use Rattle.heat_account.specs.Kept.{Holds, stands}
 use Rattle.heat_account.proofs.Balances.{Workable, beside_length, laws_of, bills_length}
 use Rattle.heat_account.proofs.Entries.{bill_in, billed_at, unbilled_at, bill_le_sum, no_bill, no_balance}
 

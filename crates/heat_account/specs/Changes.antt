@@ -1,5 +1,5 @@
 -- What a correction changes while it is open.
-use Rattle.std.specs.Prelude.{◌≡◌, ℕ, List, [], ◌∷◌, get_or, ℤ, pos, ◌+ℤ◌, ◌-ℤ◌, Ok, Err, fold, Result, slice_index, slice_index_or}
+use Rattle.std.specs.Prelude.{◌≡◌, ℕ, List, [], ◌∷◌, get_or, ℤ, pos, ◌+ℤ◌, ◌-ℤ◌, Ok, fold, Result, slice_index, slice_index_or}
 use Rattle.fault.specs.declared.place.Place.TheVariants.{Nowhere, Room}
 use Rattle.fault.specs.declared.refusal.Fault.{Fault}
 use Rattle.sharing.specs.Rule.{Shares}

@@ -1,6 +1,6 @@
-use Rattle.std.proofs.Common.{◌≡◌, ℕ, get_or, rules, ap, ◌∙◌}
-use Rattle.heat_account.specs.declared.answer.Answer.TheVariants.{Billed, Balanced}
-use Rattle.heat_account.specs.declared.call.Call.TheVariants.{Bill, Balance}
+use Rattle.std.proofs.Common.{◌≡◌, get_or, rules, ap, ◌∙◌}
+use Rattle.heat_account.specs.declared.answer.Answer.TheVariants.{Balanced}
+use Rattle.heat_account.specs.declared.call.Call.TheVariants.{Balance}
 use Rattle.heat_account.specs.Judged.{judged, result_of}
 use Rattle.heat_account.specs.Carried.{answer_of}
 use Rattle.heat_account.proofs.Carrying.{carries, by_mapped, by_kept}

@@ -1,7 +1,7 @@
-use Rattle.std.proofs.Common.{◌≡◌, ℕ, slice_index_or, rules, ap, ◌∙◌}
+use Rattle.std.proofs.Common.{ℕ, slice_index_or, rules, ap, ◌∙◌}
 use Rattle.fault.specs.declared.place.Place.TheVariants.{Room}
-use Rattle.heat_account.specs.declared.answer.Answer.TheVariants.{Billed, Balanced}
-use Rattle.heat_account.specs.declared.call.Call.TheVariants.{Bill, Balance}
+use Rattle.heat_account.specs.declared.answer.Answer.TheVariants.{Billed}
+use Rattle.heat_account.specs.declared.call.Call.TheVariants.{Bill}
 use Rattle.heat_account.specs.Judged.{judged}
 use Rattle.heat_account.specs.Carried.{answer_of}
 use Rattle.heat_account.proofs.Carrying.{carries, told_at, by_mapped, by_kept}

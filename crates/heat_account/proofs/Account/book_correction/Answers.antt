@@ -1,4 +1,4 @@
-use Rattle.std.proofs.Common.{◌≡◌, length, Some, sym, refl, subst, length-set}
+use Rattle.std.proofs.Common.{Some, sym, refl, subst, length-set}
 use Rattle.heat_account.specs.State.{reread}
 use Rattle.heat_account.specs.Kept.{Holds}
 use Rattle.heat_account.specs.Tables.{state_of}

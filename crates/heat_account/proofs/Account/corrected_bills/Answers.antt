@@ -1,4 +1,4 @@
-use Rattle.std.proofs.Common.{◌≡◌, ℕ, true, Ok, Err, Result, IsOk, sym, ◌∙◌, subst, arith}
+use Rattle.std.proofs.Common.{◌≡◌, true, sym, ◌∙◌, subst}
 use Rattle.heat_account.specs.declared.stage.Stage.{Stage}
 use Rattle.heat_account.specs.State.{reread, period_bills}
 use Rattle.heat_account.specs.Judged.{unamendable}

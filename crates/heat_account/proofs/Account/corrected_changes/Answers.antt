@@ -1,7 +1,6 @@
 use Rattle.std.proofs.Common.{◌≡◌, ℕ, List, length, sym, ap, ◌∙◌}
 use Rattle.heat_account.specs.declared.stage.Stage.{Stage}
 use Rattle.heat_account.specs.State.{corrected}
-use Rattle.heat_account.specs.Tables.{state_of}
 use Rattle.heat_account.specs.Changes.{each_change}
 use Rattle.heat_account.proofs.ChangeLaws.{length_each_change}
 use Rattle.heat_account.proofs.Account.corrected_changes.Goals as goal

@@ -1,4 +1,4 @@
-use Rattle.std.proofs.Common.{sym, ap, subst}
+use Rattle.std.proofs.Common.{sym, subst}
 use Rattle.heat_account.specs.Kept.{Holds}
 use Rattle.heat_account.proofs.KeptLaws.{holds_first}
 use Rattle.heat_account.proofs.Carrying.{goes_first}
