@@ -1,6 +1,7 @@
 // A season of house 7: two periods, a late reading in each, and a reading that is refused.
-use crate::late::{Ending, correct_late};
+use crate::late::correct_late;
 use crate::{AREAS, FLATS};
+use events::event::Ending;
 use fault::refusal::Fault;
 use heat_account::Account;
 use house::House;

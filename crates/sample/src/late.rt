@@ -1,14 +1,8 @@
 // Late readings, carried into the period closed last or dropped again.
+use events::event::Ending;
 use fault::refusal::Fault;
 use heat_account::Account;
 use sharing::remainders::Remainders;
-
-// How a correction ends.
-#[derive(Clone, Copy)]
-pub(crate) enum Ending {
-    Book,
-    Withdraw,
-}
 
 pub(crate) fn correct_late(
     account: &mut Account<Remainders>,

@@ -1,5 +1,6 @@
 // Corrections from the late reading to the end of their slip.
 use crate::houses::{Figures, figures_of};
+use events::event::Ending;
 use fault::refusal::Fault;
 use heat_account::Account;
 use heat_account::slip::Slip;
@@ -17,13 +18,6 @@ fn look(account: &Account<Remainders>, slip: &Slip) -> Result<Seen, Fault> {
         slip: (slip.house(), slip.period()),
         figures: figures_of(account)?,
     })
-}
-
-// How a correction ends.
-#[derive(Clone, Copy)]
-pub(crate) enum Ending {
-    Book,
-    Withdraw,
 }
 
 pub(crate) fn correct_late(

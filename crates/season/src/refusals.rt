@@ -1,6 +1,7 @@
 use crate::calls::{book, close, correct, read, withdraw};
-use crate::corrections::{Ending, correct_late};
+use crate::corrections::correct_late;
 use crate::houses::{SEVEN, SEVEN_ROOMS, open, seven_closed};
+use events::event::Ending;
 use fault::layer::Layer;
 use fault::place::Place;
 use fault::refusal::Fault;

@@ -1,6 +1,7 @@
 use crate::calls::{book, close, correct, read, withdraw};
-use crate::corrections::{Ending, Seen, book_elsewhere, correct_late};
+use crate::corrections::{Seen, book_elsewhere, correct_late};
 use crate::houses::{Figures, SEVEN, SEVEN_ROOMS, build, figures_of, open, seven_closed};
+use events::event::Ending;
 use fault::place::Place;
 use fault::reason::Reason;
 use fault::refusal::Fault;

@@ -3,8 +3,15 @@ use Rattle.std.proofs.Common.{◌≡◌, ℕ, ◌<◌, ◌≤◌, List, ◌++◌
 use Rattle.std.proofs.lemmas.List.{take_at}
 use Rattle.std.proofs.lemmas.Bool.Decides.{nat_tests}
 use Rattle.fault.specs.declared.reason.Reason.{Reason}
-use Rattle.sharing.specs.Accepted.{WithinLimits}
 use Rattle.sharing.specs.Refusal.{refusal, answer, placed}
+
+-- the limits of an accepted sharing: `all` is the sum of the weights
+pub record WithinLimits (total : ℕ) (weights : List ℕ) (all : ℕ) : Type 0 where
+  pub few : length weights ≤ 256
+  pub small : total ≤ 100000000
+  pub light : all ≤ 100000000
+  pub summed : all ≡ sum weights
+  pub weighed : 0 < total → 0 < all
 
 pub within_limits : (total : ℕ) (weights : List ℕ) (room : ℕ) → refusal total weights room ≡ None → WithinLimits total weights (sum weights)
 within_limits total weights room e = record {

@@ -1,14 +1,15 @@
--- A sharing that no rule refuses, and what its pot keeps to.
-use Rattle.std.specs.Prelude.{◌≡◌, ℕ, ◌<◌, ◌≤◌, List, length, sum}
+-- A sharing that no rule refuses.
+use Rattle.std.specs.Prelude.{ℕ, List, Ok, Err, Result}
+use Rattle.fault.specs.declared.refusal.Fault.{Fault}
+use Rattle.sharing.specs.declared.pot.Pot.{Pot}
 
+-- its total, its weights, and their sum
 pub record Accepted : Type 0 where
   pub total : ℕ
   pub weights : List ℕ
+  pub all : ℕ
 
--- the limits of an accepted sharing: `all` is the sum of the weights
-pub record WithinLimits (total : ℕ) (weights : List ℕ) (all : ℕ) : Type 0 where
-  pub few : length weights ≤ 256
-  pub small : total ≤ 100000000
-  pub light : all ≤ 100000000
-  pub summed : all ≡ sum weights
-  pub weighed : 0 < total → 0 < all
+-- a result with what its pot holds
+abbrev pub accepted : Result Pot Fault → Result Accepted Fault
+accepted (Ok p) = Ok (record { total = p.total; weights = p.weights.now; all = p.all })
+accepted (Err fault) = Err fault

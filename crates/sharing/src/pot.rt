@@ -1,4 +1,4 @@
-ghost use Rattle.std.specs.Prelude.{◌≡◌, ◌*◌, ◌/◌, ◌%◌, ◌≤◌, Err, sum};
+ghost use Rattle.std.specs.Prelude.{◌≡◌, ◌*◌, ◌/◌, ◌%◌, ◌<◌, ◌≤◌, length, Err, sum};
 ghost use Rattle.fault.specs.Numbers.{fault_of};
 ghost use Rattle.fault.specs.declared.place.Place.TheVariants.{Nowhere};
 ghost use Rattle.sharing.specs.Refusal.{refusal, answer};
@@ -7,28 +7,23 @@ use crate::sums::sum_of;
 use fault::place::Place;
 use fault::reason::Reason;
 use fault::refusal::Fault;
-use std::marker::Model;
 
 pub const MOST_CLAIMANTS: usize = 256;
 // Of a total and of the sum of the weights.
 pub const MOST_UNITS: u32 = 100_000_000;
 
-// A sharing that no rule refuses: a total, the weights that it is shared by, and their sum.
-#[derive(Clone, Drop)]
+// A sharing that no rule refuses: a total, the weights that it is shared by, and their sum. No Model, since that would
+// forbid copies.
+#[derive(Clone, Copy)]
 pub struct Pot<'a> {
     pub total: u32,
     pub weights: &'a [u32],
     pub all: u32,
-}
-
-impl<'a> Model for Pot<'a> {
-    ghost use Rattle.sharing.specs.Accepted.{Accepted, WithinLimits};
-
-    ghost Value = { Accepted };
-
-    ghost view = { λ p. record { total = p.total; weights = p.weights.now } };
-
-    ghost invariant = { λ p. WithinLimits p.total p.weights.now p.all };
+    ghost few: { length weights.now ≤ 256 },
+    ghost small: { total ≤ 100000000 },
+    ghost light: { all ≤ 100000000 },
+    ghost summed: { all ≡ sum weights.now },
+    ghost weighed: { 0 < total → 0 < all },
 }
 
 fn refuse<T>(reason: Reason) -> Result<T, Fault>
@@ -38,9 +33,11 @@ fn refuse<T>(reason: Reason) -> Result<T, Fault>
 }
 
 impl<'a> Pot<'a> {
+    ghost use Rattle.sharing.specs.Accepted.{accepted};
+
     // The pot of a sharing into a place for `room` shares.
     pub fn admit(total: u32, weights: &'a [u32], room: usize) -> Result<Pot<'a>, Fault>
-        ensures { result ≡ answer (refusal total weights.now room) (record { total = total; weights = weights.now }) }
+        ensures { accepted result ≡ answer (refusal total weights.now room) (record { total = total; weights = weights.now; all = sum weights.now }) }
     {
         if room < weights.len() {
             return refuse(Reason::PlaceTooShort);
@@ -71,8 +68,8 @@ impl<'a> Pot<'a> {
     // The whole units that fall to a weight: none where nobody has a weight.
     #[tactic(auto, using(crate::specs::Parts::capped))]
     pub(crate) fn floor(&self, weight: u32) -> u32
-        requires { weight ≤ sum self.now.weights }
-        ensures { result ≡ self.now.total * weight / sum self.now.weights }
+        requires { weight ≤ sum self.now.weights.now }
+        ensures { result ≡ self.now.total * weight / sum self.now.weights.now }
     {
         self.product(weight)
             .checked_div(u64::from(self.all))
@@ -81,8 +78,8 @@ impl<'a> Pot<'a> {
 
     // What the whole units leave of a weight's part, over the sum of the weights.
     pub(crate) fn rest(&self, weight: u32) -> u32
-        requires { weight ≤ sum self.now.weights }
-        ensures { result ≡ self.now.total * weight % sum self.now.weights }
+        requires { weight ≤ sum self.now.weights.now }
+        ensures { result ≡ self.now.total * weight % sum self.now.weights.now }
     {
         self.product(weight)
             .checked_rem(u64::from(self.all))

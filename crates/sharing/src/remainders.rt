@@ -13,9 +13,9 @@ pub struct Remainders;
 
 // Writes each claimant's remainder, and tells the units left over.
 fn write_rests(pot: &Pot, place: &mut [u32]) -> u32
-    requires { length place.old ≡ length pot.now.weights }
-    ensures left { result ≡ pot.now.total - sum (floors pot.now.total (sum pot.now.weights) pot.now.weights) }
-    ensures after { place.new ≡ rests pot.now.total (sum pot.now.weights) pot.now.weights }
+    requires { length place.old ≡ length pot.now.weights.now }
+    ensures left { result ≡ pot.now.total - sum (floors pot.now.total (sum pot.now.weights.now) pot.now.weights.now) }
+    ensures after { place.new ≡ rests pot.now.total (sum pot.now.weights.now) pot.now.weights.now }
 {
     let mut left = pot.total;
     // By index: a proof knows nothing of what a zip over `iter_mut` has written.
@@ -80,8 +80,8 @@ impl OddUnits {
 
 // Writes each claimant's share.
 fn write_shares(pot: &Pot, mut odd: OddUnits, place: &mut [u32])
-    requires { length place.old ≡ length pot.now.weights }
-    ensures { place.new ≡ given pot.now.total (sum pot.now.weights) odd.cutoff odd.spare pot.now.weights }
+    requires { length place.old ≡ length pot.now.weights.now }
+    ensures { place.new ≡ given pot.now.total (sum pot.now.weights.now) odd.cutoff odd.spare pot.now.weights.now }
 {
     // By index, as in `write_rests`.
     for (i, weight) in pot.weights.iter().enumerate() {
@@ -91,8 +91,8 @@ fn write_shares(pot: &Pot, mut odd: OddUnits, place: &mut [u32])
 
 // Fills the place, which is as long as the weights and holds the remainders on the way.
 fn spread(pot: &Pot, place: &mut [u32])
-    requires { length place.old ≡ length pot.now.weights }
-    ensures { place.new ≡ remainders pot.now.total pot.now.weights }
+    requires { length place.old ≡ length pot.now.weights.now }
+    ensures { place.new ≡ remainders pot.now.total pot.now.weights.now }
 {
     let left = write_rests(pot, place) as usize;
     let cutoff = find_cutoff(place, left, pot.all);

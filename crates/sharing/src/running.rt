@@ -13,8 +13,8 @@ pub struct Running;
 // Fills the place, which is as long as the weights.
 #[tactic(auto, using(crate::specs::Totals::sum_front_le))]
 fn spread(pot: &Pot, place: &mut [u32])
-    requires { length place.old ≡ length pot.now.weights }
-    ensures { place.new ≡ running pot.now.total pot.now.weights }
+    requires { length place.old ≡ length pot.now.weights.now }
+    ensures { place.new ≡ running pot.now.total pot.now.weights.now }
 {
     let mut passed = 0;
     let mut before = 0;

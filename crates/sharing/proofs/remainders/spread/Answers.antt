@@ -6,7 +6,7 @@ use Rattle.sharing.proofs.remainders.spread.Goals as goal
 pub find_cutoff-cutoff-requires : goal.find_cutoff-cutoff-requires
 find_cutoff-cutoff-requires c =
     let t = c.args.pot.now.total in
-    let ws = c.args.pot.now.weights in
+    let ws = c.args.pot.now.weights.now in
     let weighed : 0 < t → 0 < sum ws = λ h. grind arith in
     record {
       takers = grind (arith, takers t ws weighed);
