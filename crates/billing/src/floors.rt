@@ -16,6 +16,7 @@ pub(crate) struct Floors {
     area: u32,
 }
 
+// Below, `as` narrows what a proof shows to fit; `try_from` would bring a branch that is never taken.
 impl Floors {
     pub(crate) fn of(percent: u32, rooms: &PerRoom<CountedRoom>) -> Floors
         requires { Floored percent rooms.now }

@@ -18,6 +18,7 @@ fn put_back(claims: &PerRoom<Option<u32>>, shares: &[u32]) -> PerRoom<u32>
 {
     let mut all = PerRoom::filled(0, 0);
     let mut left = shares.iter();
+    // A loop: a closure would have to change the iterator that it takes the shares from.
     for claim in claims.as_slice() {
         let share = match claim {
             Some(_) => left.next().copied().unwrap_or(0),

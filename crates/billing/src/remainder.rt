@@ -25,6 +25,7 @@ impl Remainder<'_> {
     fn unread(&self) -> u32
         ensures { result ≡ unread self.now.rooms.now self.now.total }
     {
+        // Here and below `as` narrows what a proof shows to fit; `try_from` would bring a branch that is never taken.
         self.total - Sums::of(self.rooms).readings as u32
     }
 

@@ -31,6 +31,7 @@ impl Stated<'_> {
         ensures { result ≡ self.now.total - read_sum self.now.rooms.now - pipe_sum self.now.rooms.now }
     {
         let sums = Sums::of(self.rooms);
+        // Here and below `as` narrows what a proof shows to fit; `try_from` would bring a branch that is never taken.
         self.total - (sums.readings + sums.pipes) as u32
     }
 

@@ -18,6 +18,7 @@ use std::io;
 use std::io::{Read, Write};
 
 // One byte more than may come tells an input that is too long, whatever follows.
+// `as`, since a constant calls no function.
 const MOST_READ: u64 = MOST_INPUT as u64 + 1;
 
 // All of the input, or enough of it to know that it is too long.

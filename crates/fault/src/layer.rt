@@ -14,6 +14,7 @@ impl Layer {
     pub fn number(self) -> u8
         ensures { result ≡ layer_number self }
     {
+        // A discriminant is read by `as`: `From<Layer>` would be this line in an impl that nobody asks for.
         self as u8
     }
 }

@@ -41,6 +41,7 @@ impl Reason {
     pub fn number(self) -> u8
         ensures { result ≡ number self }
     {
+        // A discriminant is read by `as`: `From<Reason>` would be this line in an impl that nobody asks for.
         self as u8
     }
 

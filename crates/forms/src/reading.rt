@@ -51,6 +51,7 @@ pub(crate) fn value_of(digits: &[u8]) -> u32
     requires digits { AllDigits 10 digits.now }
     ensures { result ≡ digits_value 10 digits.now }
 {
+    // A loop: a closure of `fold` would not know how large the value is so far.
     let mut value = 0u32;
     for digit in digits {
         value = value * 10 + u32::from(*digit - b'0');

@@ -3,6 +3,7 @@ use Rattle.std.proofs.Common.{◌≡◌, ℕ, zero, suc, ◌+◌, ◌-◌, ◌*�
 use lib.ListN.{length-replicate}
 use Rattle.std.specs.List.{AllByRecursion}
 use Rattle.std.proofs.lemmas.List.Sums.{sum_by-cons}
+use Rattle.std.proofs.lemmas.List.Folds.{sum_by-replicate}
 use Rattle.sharing.specs.Rule.{Shares, Fair}
 use Rattle.house.specs.Plan.{Plan}
 use Rattle.billing.specs.Counting.{counted}
@@ -71,10 +72,6 @@ near_more j k (b ∷ bs) (x ∷ xs) [] ys e h g = absurd (omega arith)
 near_more j k (b ∷ bs) (x ∷ xs) (n ∷ ns) [] e h g = absurd g
 near_more j k (b ∷ bs) (x ∷ xs) (n ∷ ns) (y ∷ ys) e (h, hs) (g, gs) = (within_plus j k (figures b) n x y h g, near_more j k bs xs ns ys (omega arith) hs gs)
 
-sum_zeros : (n : ℕ) → sum (replicate n 0) ≡ 0
-sum_zeros zero = refl
-sum_zeros (suc n) = omega (arith, sum_by-cons (λ (y : ℕ). y) 0 (replicate n 0), sum_zeros n)
-
 -- a period that was accepted
 abbrev pub Workable : Plan → Period → Type 0
 Workable plan p = unworkable plan.method (counted plan.rooms p.readings) p.total p.common ≡ None
@@ -91,7 +88,7 @@ module _ (shares : Shares) (fair : Fair shares) (plan : Plan) (lawful : (ms : Li
   balances_length (p ∷ ps) = beside_length ◌+◌ (balances shares plan ps) (map figures (period_bills shares plan p)) ∙ balances_length ps
 
   closes : (ps : List Period) → AllByRecursion (Workable plan) ps → sum (balances shares plan ps) ≡ sum_by (λ (p : Period). p.total) ps
-  closes [] w = sum_zeros (length plan.rooms)
+  closes [] w = sum_by-replicate (λ (y : ℕ). y) (length plan.rooms) 0 ∙ mul-zero (length plan.rooms)
   closes (p ∷ ps) (w, ws) =
       omega (arith, sum_billed (balances shares plan ps) (period_bills shares plan p) (bills_length p w ∙ sym (balances_length ps)), closes ps ws, (laws_of p w).closes, sum_by-cons (λ (p : Period). p.total) p ps)
 

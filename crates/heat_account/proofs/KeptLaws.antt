@@ -1,7 +1,7 @@
 -- What every account keeps true, through each change of its tables.
-use Rattle.std.proofs.Common.{◌≡◌, ℕ, ◌+◌, ◌-◌, ◌<◌, ◌≤◌, true, false, not, eqb, ltb, List, map, length, get_or, is_some, Some, None, Ok, Err, IsOk, Option, Result, sym, refl, ap, ◌∙◌, subst, arith, rules}
+use Rattle.std.proofs.Common.{◌≡◌, ℕ, ◌+◌, ◌-◌, ◌<◌, ◌≤◌, true, false, ltb, List, map, length, get_or, is_some, Some, None, Ok, Err, IsOk, Option, Result, sym, refl, ap, ◌∙◌, arith, rules}
 use lib.ListN.{length-replicate}
-use Rattle.std.proofs.lemmas.Bool.{ltb-true, lt-ltb, and_parts, and_from, not-true, eqb-false, ne_eqb, lt-leb, cond-false}
+use Rattle.std.proofs.lemmas.Bool.{ltb-true, and_parts, not-true, ne_eqb, lt-leb, cond-false}
 use Rattle.fault.specs.declared.reason.Reason.{Reason}
 use Rattle.sharing.specs.Rule.{Shares, Fair}
 use Rattle.house.specs.Plan.{Plan, lawful}
@@ -9,14 +9,12 @@ use Rattle.billing.proofs.HouseLaws.{lawful_counted}
 use Rattle.billing.specs.Counting.{counted}
 use Rattle.billing.specs.Period.{figures, given, refusal}
 use Rattle.billing.specs.Worked.{ruled}
-use Rattle.heat_account.specs.declared.stage.Stage.{Stage}
 use Rattle.heat_account.specs.declared.stage.Stage.TheVariants.{Taking, Correcting}
 use Rattle.heat_account.specs.declared.answer.Answer.{Answer}
 use Rattle.heat_account.specs.declared.call.Call.{Call}
 use Rattle.heat_account.specs.declared.call.Call.TheVariants.{Close}
-use Rattle.heat_account.specs.State.{Period, State, HouseAccount, with_state, moved_on, period_bills, unbilled, no_state, with_period, with_stage, with_amended}
+use Rattle.heat_account.specs.State.{Period, State, HouseAccount, with_state, moved_on, period_bills, unbilled, no_state, with_period, with_amended}
 use Rattle.heat_account.specs.Judged.{unamendable, amend_of, meter_of, and_then, correcting, judged, by, performed}
-use Rattle.heat_account.proofs.LedgerLaws.{unless_ok, and_then_ok}
 use Rattle.heat_account.specs.Kept.{Holds, stands}
 use Rattle.heat_account.proofs.Balances.{Workable, beside_length, laws_of, bills_length}
 use Rattle.heat_account.proofs.Entries.{bill_in, billed_at, unbilled_at, bill_le_sum, no_bill, no_balance}
@@ -25,10 +23,6 @@ use Rattle.heat_account.proofs.Entries.{bill_in, billed_at, unbilled_at, bill_le
 pub ruled_err : {X : Type 0} (o : Option Reason) (x : X) (reason : Reason) → Err reason ≡ ruled o x → o ≡ Some reason
 ruled_err None x reason e = let z : ◌≡◌ {A = ℕ} 0 1 = cc in absurd (omega arith)
 ruled_err (Some r) x reason e = cc
-
-pub ruled_ok : {X : Type 0} (o : Option Reason) (x y : X) → Ok y ≡ ruled o x → (o ≡ None) × (y ≡ x)
-ruled_ok None x y e = (refl, cc)
-ruled_ok (Some r) x y e = let z : ◌≡◌ {A = ℕ} 0 1 = cc in absurd (omega arith)
 
 pub ruled_none : {X : Type 0} (o : Option Reason) (x : X) (r : Result X Reason) → o ≡ None → r ≡ ruled o x → IsOk r
 ruled_none None x (Ok y) n e = search rules
@@ -54,22 +48,6 @@ clear_facts plan last closed place reading e =
     let a = and_parts (ltb 0 closed) _ e in
     let b = and_parts (ltb place (length plan.rooms)) _ a.1 in
     (ltb-true 0 closed a.0, ltb-true place (length plan.rooms) b.0, none_from (unamendable plan last place reading) (not-true _ b.1))
-
-pub clear_from : (plan : Plan) (last : Period) (closed place reading : ℕ) → 0 < closed → place < length plan.rooms → unamendable plan last place reading ≡ None → stands plan last closed (Correcting place reading) ≡ true
-clear_from plan last closed place reading some within none =
-    and_from _ _ (lt-ltb 0 closed some) (and_from _ _ (lt-ltb place (length plan.rooms) within) (ap (λ (o : Option Reason). not (is_some o)) none))
-
--- a correction that was accepted is clear
-pub amended_clear : (plan : Plan) (s : State) (room reading place : ℕ) → Ok place ≡ amend_of plan s room reading → place < length plan.rooms → stands plan s.last s.closed (Correcting place reading) ≡ true
-amended_clear plan s room reading place e within =
-    let a = unless_ok (eqb s.closed 0) _ _ place (sym e) in
-    let some : 0 < s.closed = omega (arith, eqb-false s.closed 0 a.0) in
-    let b = and_then_ok (meter_of plan room reading) _ place a.1 in
-    let d = ruled_ok (unamendable plan s.last b.0 reading) b.0 place (sym b.1) in
-    clear_from plan s.last s.closed place reading some within (subst (λ (v : ℕ). unamendable plan s.last v reading ≡ None) (sym d.1) d.0)
-
-pub holds_stage : (plan : Plan) (s : State) (stage : Stage) → Holds plan s → stands plan s.last s.closed stage ≡ true → Holds plan (with_stage s stage)
-holds_stage plan s stage h e = record { lawful = h.lawful; long = h.long; few = h.few; small = h.small; bounded = h.bounded; clear = e }
 
 module _ (plan : Plan) (s : State) (h : Holds plan s) (p : Period) (bs : List (ℕ × ℕ)) (long : length bs ≡ length plan.rooms) (low : (k : ℕ) → bill_in bs k ≤ 100000000) where
   pub holds_close : s.stage ≡ Taking → s.closed < 600 → p.total ≤ 100000000 → given p.common ≤ 100000000 → p.readings ≡ s.readings → Holds plan (with_period s p bs)

@@ -37,7 +37,7 @@ pub unless_ok : {X : Type 0} (b : Bool) (reason : Reason) (r : Result X Reason) 
 unless_ok true reason r x e = let z : ◌≡◌ {A = ℕ} 0 1 = cc in absurd (omega arith)
 unless_ok false reason r x e = (refl, e)
 
-ruled_ok : {X : Type 0} (o : Option Reason) (x y : X) → ruled o x ≡ Ok y → (o ≡ None) × (x ≡ y)
+pub ruled_ok : {X : Type 0} (o : Option Reason) (x y : X) → Ok y ≡ ruled o x → (o ≡ None) × (y ≡ x)
 ruled_ok None x y e = (refl, cc)
 ruled_ok (Some reason) x y e = let z : ◌≡◌ {A = ℕ} 0 1 = cc in absurd (omega arith)
 
@@ -80,14 +80,14 @@ module _ (shares : Shares) (plan : Plan) where
       let b = unless_ok _ _ _ i a.1 in
       let p : Period = record { readings = l.readings; total = v; common = q } in
       let none = not_correcting l.correction a.0 in
-      record { periods = (workable_refusal plan p (ruled_ok _ 0 i b.1).0, s.periods); correction = subst (Correctable plan (p ∷ l.closed)) (sym none) tt }
+      record { periods = (workable_refusal plan p (ruled_ok _ 0 i (sym b.1)).0, s.periods); correction = subst (Correctable plan (p ∷ l.closed)) (sym none) tt }
   noted_sound l (Correct room m) i e s =
       let a = unless_ok _ _ _ i e in
       let b = unless_ok (eqb (length l.closed) 0) _ _ i a.1 in
       let c = and_then_ok (meter_of plan room m) _ i b.1 in
-      let d = ruled_ok (unamendable plan (latest plan l.closed) c.0 m) c.0 i c.1 in
+      let d = ruled_ok (unamendable plan (latest plan l.closed) c.0 m) c.0 i (sym c.1) in
       let some = some_closed (length l.closed) b.0 in
-      record { periods = s.periods; correction = (refl, some, subst (λ (v : ℕ). unamendable plan (latest plan l.closed) v m ≡ None) d.1 d.0) }
+      record { periods = s.periods; correction = (refl, some, subst (λ (v : ℕ). unamendable plan (latest plan l.closed) v m ≡ None) (sym d.1) d.0) }
   noted_sound l (Book h p) i e s = record { periods = booked_workable plan l.closed l.correction s.periods s.correction; correction = tt }
   noted_sound l (Withdraw h p) i e s = record { periods = s.periods; correction = tt }
   noted_sound l (Bill room) i e s = s

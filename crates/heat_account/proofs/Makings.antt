@@ -1,5 +1,5 @@
 -- What is made of two lists, place by place.
-use Rattle.std.proofs.Common.{◌≡◌, ℕ, suc, ◌<◌, List, [], ◌∷◌, ◌++◌, map, length, get_or, ◌⊎◌, inl, inr, sym, refl, ap, subst, append_assoc, append-nil, arith}
+use Rattle.std.proofs.Common.{◌≡◌, ℕ, suc, ◌<◌, List, [], ◌∷◌, ◌++◌, map, length, get_or, ◌⊎◌, inl, inr, refl, ap, subst, append-nil, arith}
 use Rattle.billing.specs.Pots.{Both, beside}
 use Rattle.heat_account.specs.Pairs.{Made}
 
@@ -7,11 +7,6 @@ module _ {A B C : Type 0} (P : A → B → C → Type 0) where
   -- what is still to be made, put behind what is made already, makes the whole
   abbrev pub Making : List A → List B → List C → List A → List B → Type 0
   Making xs ys made rest-xs rest-ys = (rest : List C) → Made P rest-xs rest-ys rest → Made P xs ys (made ++ rest)
-
-  pub made_more : (xs : List A) (ys : List B) (made new : List C) (x : A) (y : B) (z : C) (rest-xs xs' : List A) (rest-ys ys' : List B) → rest-xs ≡ x ∷ xs' → rest-ys ≡ y ∷ ys' → P x y z → new ≡ made ++ z ∷ [] → Making xs ys made rest-xs rest-ys → Making xs ys new xs' ys'
-  made_more xs ys made new x y z rest-xs xs' rest-ys ys' ea eb p en making rest m =
-      let all = making (z ∷ rest) (rw (ea, eb) (p, m)) in
-      rw en (subst (Made P xs ys) (sym (append_assoc made (z ∷ []) rest)) all)
 
   none_left : (rest-xs : List A) (rest-ys : List B) → (rest-xs ≡ []) ⊎ (rest-ys ≡ []) → Made P rest-xs rest-ys []
   none_left [] rest-ys e = tt

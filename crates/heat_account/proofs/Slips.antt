@@ -14,11 +14,6 @@ use Rattle.heat_account.specs.State.{State, moved_on, with_stage}
 use Rattle.heat_account.specs.Judged.{by, judged, result_of, after, fits}
 use Rattle.heat_account.specs.Carried.{with_slip}
 
--- a refused slip comes back as it was
-pub handed_back : (r : Result (Unit {0}) Fault) (slip : Slip) (back : Fault × Slip) → Err back ≡ with_slip r slip → back.1 ≡ slip
-handed_back (Ok u) slip back e = absurd (let z : ◌≡◌ {A = ℕ} 0 1 = cc in omega arith)
-handed_back (Err fault) slip back e = cc
-
 -- the numbers of a correction that is open fit it
 own_numbers : (plan : Plan) (s : State) (place reading : ℕ) → fits plan (with_stage s (Correcting place reading)) plan.number s.closed ≡ true
 own_numbers plan s place reading = ap (λ b. b && eqb s.closed s.closed) (eq-eqb plan.number plan.number refl) ∙ eq-eqb s.closed s.closed refl

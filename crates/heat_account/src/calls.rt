@@ -95,6 +95,7 @@ impl<R: Sharing> Account<R> {
         }
     }
 
+    // The pair is what comes back from a refusal, the fault and the slip; a struct would say no more.
     // Puts the corrected bills and reading in place. A refused slip comes back.
     pub fn book(&mut self, slip: Slip) -> Result<(), (Fault, Slip)>
         ensures value { result ≡ with_slip (result_of self.old.house self.old.state (Book slip.house slip.period) (λ _. tt)) slip }

@@ -81,6 +81,7 @@ impl<R: Sharing> Account<R> {
         Ok(Answer::Done)
     }
 
+    // One match, so that no pair of stage and call is left out.
     // What a call does depends on the stage together with the call.
     pub(crate) fn act(&mut self, call: Call) -> Result<Answer, Reason>
         ensures value { result ≡ judged_answer self.old.house self.old.state call }

@@ -37,6 +37,7 @@ pub fn run<R: Sharing>(
     ensures answers { answers.new ≡ overlaid (answers_from (R.shares rule) house (empty house) calls.now) answers.old }
 {
     let mut account = Account::open(house, rule);
+    // By index: once what `iter_mut` or `get_mut` lent is written, a proof knows nothing of the slice.
     for (i, call) in calls.iter().enumerate() {
         account.perform_into(*call, answers, i);
     }

@@ -23,6 +23,7 @@ pub(crate) struct LastPeriod {
 }
 
 #[derive(Drop)]
+// Columns and no table of rows: the calls that show all bills or all balances lend a column as a slice.
 pub(crate) struct Tables {
     // Of the open period.
     pub(crate) readings: Table<Option<u32>, ROOMS>,

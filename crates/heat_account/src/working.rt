@@ -20,6 +20,7 @@ use sharing::rule::Sharing;
 use tables::Table;
 
 impl<R: Sharing> Account<R> {
+    // A place is one within this house, which a type of its own could not say.
     // The place of a room that takes this reading.
     pub(crate) fn meter(&self, room: u32, reading: u32) -> Result<usize, Reason>
         ensures value { result ≡ meter_of self.now.house room reading }

@@ -1,5 +1,5 @@
 -- Rooms with one more at the end.
-use Rattle.std.proofs.Common.{◌≡◌, ℕ, ◌+◌, ◌-◌, ◌<◌, ◌≤◌, Bool, true, if◌then◌else◌, nat_lt, ltb, List, [], ◌∷◌, ◌++◌, length, get_or, is_ok, None, Ok, Err, fold, Result, refl, ap, ◌∙◌, sub-one, arith}
+use Rattle.std.proofs.Common.{◌≡◌, ℕ, ◌+◌, ◌<◌, ◌≤◌, Bool, true, if◌then◌else◌, nat_lt, ltb, List, [], ◌∷◌, ◌++◌, length, is_ok, None, Ok, Err, fold, Result, refl, ap, ◌∙◌, arith}
 use Rattle.std.proofs.lemmas.List.{length_push}
 use Rattle.std.proofs.lemmas.List.Sums.{sum_by_push}
 use Rattle.std.proofs.lemmas.Bool.{and_from, and_parts, cond-true, lt-ltb}
@@ -8,15 +8,6 @@ use Rattle.house.specs.declared.method.Method.{Method}
 use Rattle.house.specs.declared.room.Room.{Room}
 use Rattle.house.specs.Plan.{most_rooms, most_area, common_area, takes, room_fits, every, ascend_from, last_number, area_sum, lawful, next_refusal}
 use Rattle.house.proofs.Laws.{laws_of, lawful_by}
-
-last_from : (n : ℕ) (room : Room) (rooms : List Room) (d : Room) → (get_or (room ∷ rooms) (length rooms) d).number ≡ fold (λ before r. r.number) n (room ∷ rooms)
-last_from n room [] d = refl
-last_from n room (next ∷ rooms) d = last_from room.number next rooms d
-
--- the last room, as the code reads it
-pub last_read : (rooms : List Room) (last : Room) → 0 < length rooms → last ≡ get_or rooms (length rooms - 1) last → last.number ≡ last_number rooms
-last_read [] last h e = absurd (omega arith)
-last_read (room ∷ rooms) last h e = ap (λ r. r.number) e ∙ rw sub-one (last_from 0 room rooms last)
 
 every_push : (test : Room → Bool) (rooms : List Room) (room : Room) → every test rooms ≡ true → test room ≡ true → every test (rooms ++ room ∷ []) ≡ true
 every_push test [] room h t = and_from _ _ t refl

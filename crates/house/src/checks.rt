@@ -27,6 +27,7 @@ fn last_number(rooms: &[Room]) -> u32
     rooms.last().map_or(0, |last| last.number)
 }
 
+// No type holds rooms that are no house yet, so what bounds their areas stands in three contracts.
 // Sums over rooms run as a loop, room by room: that form is fixed.
 fn area_sum(rooms: &[Room]) -> u64
     requires { area_sum rooms.now ≤ most_area }

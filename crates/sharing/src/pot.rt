@@ -65,6 +65,7 @@ impl<'a> Pot<'a> {
         u64::from(self.total) * u64::from(weight)
     }
 
+    // Below, `as` narrows what a proof shows to fit; `try_from` would bring a branch that is never taken.
     // The whole units that fall to a weight: none where nobody has a weight.
     #[tactic(auto, using(crate::specs::Parts::capped))]
     pub(crate) fn floor(&self, weight: u32) -> u32

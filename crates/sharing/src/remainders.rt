@@ -11,6 +11,7 @@ use fault::refusal::Fault;
 #[derive(Clone, Copy, PartialEq, Eq, Debug, Default)]
 pub struct Remainders;
 
+// The place stands beside the pot and not in it: a pot is copied, a place is written to.
 // Writes each claimant's remainder, and tells the units left over.
 fn write_rests(pot: &Pot, place: &mut [u32]) -> u32
     requires { length place.old ≡ length pot.now.weights.now }
@@ -94,6 +95,7 @@ fn spread(pot: &Pot, place: &mut [u32])
     requires { length place.old ≡ length pot.now.weights.now }
     ensures { place.new ≡ remainders pot.now.total pot.now.weights.now }
 {
+    // `usize` has no `From` of 32 bits.
     let left = write_rests(pot, place) as usize;
     let cutoff = find_cutoff(place, left, pot.all);
     let spare = left - count_above(place, cutoff);

@@ -52,6 +52,7 @@ impl<T: Copy, const N: usize> Table<T, N> {
     }
 
     // Replaces the value at `i`. Past the end it changes nothing, and returns `false`.
+    // Nothing comes with the answer, so a `bool` says it as well as a `Result`.
     pub fn set(&mut self, i: usize, x: T) -> bool
         ensures value { result ≡ nat_lt i (length self.old) }
         ensures after { self.new ≡ slice_set self.old i x }

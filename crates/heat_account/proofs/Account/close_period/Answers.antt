@@ -9,8 +9,8 @@ use Rattle.heat_account.specs.State.{Period, period_bills}
 use Rattle.heat_account.specs.Judged.{judged, told}
 use Rattle.heat_account.specs.Kept.{Holds}
 use Rattle.heat_account.specs.Tables.{state_of}
-use Rattle.heat_account.proofs.LedgerLaws.{workable_refusal}
-use Rattle.heat_account.proofs.KeptLaws.{ruled_ok, ruled_err, refused_value, refused_after, bills_long, bills_small, holds_close, close_judged, low_balance}
+use Rattle.heat_account.proofs.LedgerLaws.{ruled_ok, workable_refusal}
+use Rattle.heat_account.proofs.KeptLaws.{ruled_err, refused_value, refused_after, bills_long, bills_small, holds_close, close_judged, low_balance}
 use Rattle.heat_account.proofs.Account.close_period.Goals as goal
 
 pub returns-in_err-bills-clause-value : goal.returns-in_err-bills-clause-value

@@ -3,7 +3,8 @@ use Rattle.heat_account.specs.declared.stage.Stage.{Stage}
 use Rattle.heat_account.specs.State.{reread, period_bills}
 use Rattle.heat_account.specs.Judged.{unamendable}
 use Rattle.heat_account.specs.Kept.{stands}
-use Rattle.heat_account.proofs.KeptLaws.{ruled_ok, ruled_none, bills_long, bills_small, clear_facts}
+use Rattle.heat_account.proofs.LedgerLaws.{ruled_ok}
+use Rattle.heat_account.proofs.KeptLaws.{ruled_none, bills_long, bills_small, clear_facts}
 use Rattle.heat_account.proofs.Account.corrected_bills.Goals as goal
 
 pub unwrap-requires : goal.unwrap-requires
