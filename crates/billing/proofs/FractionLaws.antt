@@ -39,10 +39,6 @@ lies_minus a b g d x le part p =
       below = omega (arith, split, p.above);
     }
 
--- a quotient over a number above 0
-pub over_some : (n d : ℕ) → 0 < d → over n d ≡ record { top = n; bottom = d }
-over_some n d pos = grind (arith, nat_tests)
-
 module _ (up down amount n d : ℕ) where
   pub lies_over : 0 < d → amount * d < n + up * d → n < amount * d + down * d → Lies up down amount (over n d)
   lies_over pos a b = record { real = grind (arith, nat_tests); above = grind (arith, nat_tests); below = grind (arith, nat_tests) }

@@ -8,6 +8,7 @@ use tables::Table;
 // At most one value for each room, in fixed memory.
 pub(crate) type PerRoom<T> = Table<T, MOST_CLAIMANTS>;
 
+// Private: it asks that the iterator can be called, and no public function asks for anything.
 // What an iterator gives, of which there is no more than a table holds.
 pub(crate) fn collect<T: Copy + Default, I: Iterator<Item = T>>(items: I) -> PerRoom<T>
     requires can { I.can_next items }

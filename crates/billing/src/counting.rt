@@ -49,6 +49,7 @@ pub(crate) fn count_rooms(rooms: &[Room], readings: &[Option<u32>]) -> PerRoom<C
     requires { length rooms.now ≤ 256 }
     ensures { result ≡ counted rooms.now readings.now }
 {
+    // By place and not by a zip: a room past the end of the readings has none.
     let placed = rooms.iter().enumerate();
     collect(placed.map(|(i, room)| count(room, reading_at(readings, i))))
 }

@@ -42,6 +42,7 @@ pub(crate) fn share_pot<R: Sharing>(
     let mut shares = [0; MOST_CLAIMANTS];
     match rule.share(pot, weights.as_slice(), &mut shares) {
         Ok(()) => put_back(claims, &shares[..weights.len()]),
+        // A pot that can be shared is not refused.
         Err(_) => unreachable(),
     }
 }

@@ -1,4 +1,5 @@
 // Where a refusal stands: at a room or in a text, and nowhere where neither was named.
+// No `Option` of a place: nowhere is a place that prints, as 0.
 #[derive(Clone, Copy, PartialEq, Eq, Debug)]
 pub enum Place {
     Nowhere,

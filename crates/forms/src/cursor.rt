@@ -4,6 +4,7 @@ use std::marker::Model;
 #[derive(Drop)]
 pub struct Cursor<'a> {
     pub(crate) text: &'a [u8],
+    // A place and no rest alone: columns count from the front of the text.
     pub(crate) at: usize,
     pub(crate) line: usize,
 }

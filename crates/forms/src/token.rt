@@ -21,6 +21,7 @@ pub enum Token<'a> {
 
 impl Token<'_> {
     // The number that was read; a word is none, and counts as 0.
+    // A 0 and no `Option`: readers ask it of what they have read as a number.
     pub fn value(self) -> u32
         ensures { result ≡ (figure_of self.entry).value }
     {

@@ -10,6 +10,7 @@ use Rattle.billing.specs.Counting.{counted}
 use Rattle.billing.specs.Pots.{beside, Both}
 use Rattle.billing.specs.Fraction.{Fraction, whole, plus, Within}
 use Rattle.billing.specs.Period.{figures, unworkable, Lawful, Laws}
+use Rattle.billing.proofs.Beside.{beside_length}
 use Rattle.billing.proofs.FractionLaws.{Lies, lies_plus, lies_within}
 use Rattle.billing.proofs.PeriodLaws.{period_laws}
 use Rattle.billing.proofs.HouseLaws.{counted_length}
@@ -26,11 +27,6 @@ rebilled_billed xs old new = turned xs (map figures old) (map figures new) where
   turned (x ∷ xs) [] (n ∷ ns) = ap (λ (v : ℕ). v ∷ beside ◌+◌ (beside ◌-◌ (beside ◌+◌ xs []) []) ns) (omega arith) ∙ ap (λ (v : List ℕ). (x + n) ∷ v) (turned xs [] ns)
   turned (x ∷ xs) (o ∷ os) [] = ap (λ (v : ℕ). v ∷ beside ◌+◌ (beside ◌-◌ (beside ◌+◌ xs os) os) []) (omega arith) ∙ ap (λ (v : List ℕ). (x + 0) ∷ v) (turned xs os [])
   turned (x ∷ xs) (o ∷ os) (n ∷ ns) = ap (λ (v : ℕ). v ∷ beside ◌+◌ (beside ◌-◌ (beside ◌+◌ xs os) os) ns) (omega arith) ∙ ap (λ (v : List ℕ). (x + n) ∷ v) (turned xs os ns)
-
-pub beside_length : {X Y : Type 0} (f : X → ℕ → Y) (xs : List X) (ns : List ℕ) → length (beside f xs ns) ≡ length xs
-beside_length f [] ns = refl
-beside_length f (x ∷ xs) [] = ap suc (beside_length f xs [])
-beside_length f (x ∷ xs) (n ∷ ns) = ap suc (beside_length f xs ns)
 
 pub sum_billed : (xs : List ℕ) (bs : List (ℕ × ℕ)) → length bs ≡ length xs → sum (billed xs bs) ≡ sum xs + sum_by figures bs
 sum_billed [] [] e = refl

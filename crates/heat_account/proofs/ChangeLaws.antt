@@ -6,6 +6,7 @@ use Rattle.std.proofs.lemmas.List.Sums.{sum_by-cons}
 use Rattle.sharing.specs.Rule.{Shares, Fair}
 use Rattle.house.specs.Plan.{Plan, lawful}
 use Rattle.billing.specs.Period.{figures}
+use Rattle.billing.proofs.Beside.{beside_length}
 use Rattle.billing.proofs.HouseLaws.{lawful_counted}
 use Rattle.heat_account.specs.declared.stage.Stage.{Stage}
 use Rattle.heat_account.specs.declared.stage.Stage.TheVariants.{Taking, Correcting}
@@ -14,7 +15,7 @@ use Rattle.heat_account.specs.Pairs.{Made}
 use Rattle.heat_account.specs.Kept.{stands}
 use Rattle.heat_account.specs.Ledger.{Correction, latest_bills, figured, ledger_after}
 use Rattle.heat_account.specs.Changes.{change, each_change, changes, Moves, Evens}
-use Rattle.heat_account.proofs.Balances.{Workable, beside_length, laws_of, bills_length}
+use Rattle.heat_account.proofs.Balances.{Workable, laws_of, bills_length}
 use Rattle.heat_account.proofs.Entries.{billed_at, unbilled_at}
 use Rattle.heat_account.specs.Kept.{Holds}
 use Rattle.heat_account.proofs.KeptLaws.{bills_long, clear_facts}

@@ -5,6 +5,7 @@ use Rattle.std.proofs.lemmas.Bool.{ltb-true, and_parts, not-true, ne_eqb, lt-leb
 use Rattle.fault.specs.declared.reason.Reason.{Reason}
 use Rattle.sharing.specs.Rule.{Shares, Fair}
 use Rattle.house.specs.Plan.{Plan, lawful}
+use Rattle.billing.proofs.Beside.{beside_length}
 use Rattle.billing.proofs.HouseLaws.{lawful_counted}
 use Rattle.billing.specs.Counting.{counted}
 use Rattle.billing.specs.Period.{figures, given, refusal}
@@ -16,7 +17,7 @@ use Rattle.heat_account.specs.declared.call.Call.TheVariants.{Close}
 use Rattle.heat_account.specs.State.{Period, State, HouseAccount, with_state, moved_on, period_bills, unbilled, no_state, with_period, with_amended}
 use Rattle.heat_account.specs.Judged.{unamendable, amend_of, meter_of, and_then, correcting, judged, by, performed}
 use Rattle.heat_account.specs.Kept.{Holds, stands}
-use Rattle.heat_account.proofs.Balances.{Workable, beside_length, laws_of, bills_length}
+use Rattle.heat_account.proofs.Balances.{Workable, laws_of, bills_length}
 use Rattle.heat_account.proofs.Entries.{bill_in, billed_at, unbilled_at, bill_le_sum, no_bill, no_balance}
 
 -- what working a period out answered

@@ -77,6 +77,7 @@ impl<R: Sharing> Account<R> {
         ensures after { self.new ≡ performed (R.shares self.old.rule) self.old (Close total common) }
         ensures ledger { Carries (R.shares self.old.rule) self.old.house self.old.state (Close total common) (answer_of Closed result) self.new.state }
     {
+        // `perform` has one type for the answers of all calls.
         match self.perform(Call::Close { total, common })? {
             Answer::Closed(periods) => Ok(periods),
             _ => unreachable(),
@@ -95,7 +96,6 @@ impl<R: Sharing> Account<R> {
         }
     }
 
-    // The pair is what comes back from a refusal, the fault and the slip; a struct would say no more.
     // Puts the corrected bills and reading in place. A refused slip comes back.
     pub fn book(&mut self, slip: Slip) -> Result<(), (Fault, Slip)>
         ensures value { result ≡ with_slip (result_of self.old.house self.old.state (Book slip.house slip.period) (λ _. tt)) slip }
@@ -122,6 +122,7 @@ impl<R: Sharing> Account<R> {
         self.end(call, slip)
     }
 
+    // The pair of a fault and a slip is what a refusal gives back; a struct would say no more.
     // Ends a correction by a call that answers nothing more: accepted, it spends the slip.
     fn end(&mut self, call: Call, slip: Slip) -> Result<(), (Fault, Slip)>
         requires { (i : ℕ) → told self.old.house self.old.state call i ≡ Done }

@@ -1,6 +1,6 @@
 // What an account shows of all rooms, in the order of the house.
-ghost use Rattle.std.specs.Prelude.{◌≡◌, true, List};
-ghost use Rattle.house.specs.Plan.{lawful};
+ghost use Rattle.std.specs.Prelude.{◌≡◌, List};
+ghost use Rattle.heat_account.specs.Kept.{Holds};
 ghost use Rattle.heat_account.specs.Ledger.{balances, latest_bills, ledger_after, Stands};
 ghost use Rattle.heat_account.specs.declared.call.Call.{Call};
 
@@ -12,7 +12,7 @@ use sharing::rule::Sharing;
 impl<R: Sharing> Account<R> {
     pub fn rooms(&self) -> &[Room]
         ensures value { result.now ≡ self.now.house.rooms }
-        ensures lawful { lawful self.now.house.number self.now.house.method self.now.house.rooms ≡ true }
+        ensures held { Holds self.now.house self.now.state }
     {
         self.house.rooms()
     }

@@ -6,6 +6,7 @@ ghost use Rattle.heat_account.specs.Pairs.{Made};
 use crate::tables_of::ROOMS;
 use tables::Table;
 
+// Private, as `collect` of billing: it asks that `f` can be called, and no public function asks for anything.
 // What `f` makes of each value with the one beside it.
 pub(crate) fn zip_with<A: Copy, B: Copy, C: Copy + Default, F: Fn(A, B) -> C>(
     xs: &[A],

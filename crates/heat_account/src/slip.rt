@@ -38,6 +38,7 @@ impl Slip {
     }
 
     // Ends the slip.
+    // The body is that of `drop`, which asks for what no slip of an account has.
     pub(crate) fn spend(self) {
         let Slip {
             house: _,

@@ -15,6 +15,7 @@ impl<R: Sharing> Account<R> {
         let (own, common) = self
             .look_up_bill(room)
             .map_err(|reason| Fault::new(reason, Place::Room(room)))?;
+        // Not `total`, which is wider than what is shared.
         Ok(own + common)
     }
 

@@ -27,6 +27,7 @@ pub(crate) struct LastPeriod {
 pub(crate) struct Tables {
     // Of the open period.
     pub(crate) readings: Table<Option<u32>, ROOMS>,
+    // Before the first closing a period without readings, as the ledger has it; `closed` is 0 then.
     pub(crate) last: LastPeriod,
     pub(crate) bills: Table<Bill, ROOMS>,
     pub(crate) balances: Table<u64, ROOMS>,
@@ -35,6 +36,7 @@ pub(crate) struct Tables {
 }
 
 // A bill more in each balance.
+// It differs from `take_off` in the closure alone; the bounds that the two ask for differ too.
 fn put_on(balances: &[u64], bills: &[Bill]) -> Table<u64, ROOMS>
     requires long { length bills.now ≡ length balances.now }
     requires few { length balances.now ≤ 256 }

@@ -19,8 +19,8 @@ use fault::reason::Reason;
 use sharing::rule::Sharing;
 use tables::Table;
 
+// That a place is within this house stands in each contract: a type of its own could not say of which house.
 impl<R: Sharing> Account<R> {
-    // A place is one within this house, which a type of its own could not say.
     // The place of a room that takes this reading.
     pub(crate) fn meter(&self, room: u32, reading: u32) -> Result<usize, Reason>
         ensures value { result ≡ meter_of self.now.house room reading }

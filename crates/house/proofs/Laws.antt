@@ -1,12 +1,12 @@
 -- What a lawful house keeps to.
-use Rattle.std.proofs.Common.{◌≡◌, ℕ, zero, suc, ◌+◌, ◌<◌, ◌≤◌, Bool, true, false, ltb, List, [], ◌∷◌, length, get_or, inl, inr, arith}
+use Rattle.std.proofs.Common.{◌≡◌, ℕ, zero, suc, ◌+◌, ◌<◌, ◌≤◌, Bool, true, ltb, List, [], ◌∷◌, length, get_or, arith}
 use Rattle.std.specs.List.{AllByRecursion}
-use Rattle.std.proofs.lemmas.Bool.{and_parts, ltb-true, cases_order}
+use Rattle.std.proofs.lemmas.Bool.{and_parts, ltb-true}
 use Rattle.std.proofs.lemmas.Bool.Decides.{nat_tests}
 use Rattle.house.specs.declared.method.Method.{Method}
-use Rattle.house.specs.declared.method.Method.TheVariants.{Remainder, Stated}
+use Rattle.house.specs.declared.method.Method.TheVariants.{Stated}
 use Rattle.house.specs.declared.room.Room.{Room}
-use Rattle.house.specs.Plan.{most_area, most_number, most_percent, most_rooms, pipe_of, is_detached, common_area, takes, number_fits, method_fits, room_fits, every, ascend_from, area_sum, lawful}
+use Rattle.house.specs.Plan.{most_area, most_percent, most_rooms, common_area, takes, number_fits, method_fits, room_fits, every, ascend_from, area_sum, lawful}
 
 pub record Laws (number : ℕ) (method : Method) (rooms : List Room) : Type 0 where
   pub number_in : number_fits number ≡ true
@@ -55,45 +55,17 @@ ascend_far n (room ∷ rooms) h (suc i) (suc j) d lt l =
     ascend_far room.number rooms (and_parts (ltb n room.number) (ascend_from room.number rooms) h).1 i j d (omega arith) (omega arith)
 
 module _ (n : ℕ) (m : Method) (rooms : List Room) (h : lawful n m rooms ≡ true) where
-  pub house_number : (0 < n) × (n ≤ most_number)
-  house_number = let p = (laws_of n m rooms h).number_in in (grind (arith, nat_tests), grind (arith, nat_tests))
-
   pub some_room : 0 < length rooms
   some_room = (laws_of n m rooms h).some
 
   pub few_rooms : length rooms ≤ most_rooms
   few_rooms = (laws_of n m rooms h).few
 
-  pub room_numbers : AllByRecursion (λ r. (0 < r.number) × (r.number ≤ most_number)) rooms
-  room_numbers = every_all room_fits _ (λ r t. (grind (arith, nat_tests), grind (arith, nat_tests))) rooms (laws_of n m rooms h).fit
-
   pub room_areas : AllByRecursion (λ r. (0 < r.area) × (r.area ≤ most_area)) rooms
   room_areas = every_all room_fits _ (λ r t. (grind (arith, nat_tests), grind (arith, nat_tests))) rooms (laws_of n m rooms h).fit
-
-  pub pipe_figures : AllByRecursion (λ r. pipe_of r.kind ≤ most_area) rooms
-  pipe_figures = every_all room_fits _ (λ r t. grind (arith, nat_tests)) rooms (laws_of n m rooms h).fit
 
   pub areas_within : area_sum rooms + common_area m ≤ most_area
   areas_within = (laws_of n m rooms h).areas
 
-  pub kinds_taken : AllByRecursion (λ r. takes m r.kind ≡ true) rooms
-  kinds_taken = every_all (λ r. takes m r.kind) _ (λ r t. t) rooms (laws_of n m rooms h).taken
-
-  pub numbers_ascend : (i j : ℕ) (d : Room) → i < j → j < length rooms → (get_or rooms i d).number < (get_or rooms j d).number
-  numbers_ascend = ascend_far 0 rooms (laws_of n m rooms h).ascend
-
-  -- no two rooms have one number
-  pub numbers_apart : (i j : ℕ) (d : Room) → i < length rooms → j < length rooms → (get_or rooms i d).number ≡ (get_or rooms j d).number → i ≡ j
-  numbers_apart i j d li lj e =
-      elim (cases_order i j) [
-        | inl same ↦ same
-        | inr (inl lt) ↦ absurd (omega (arith, numbers_ascend i j d lt lj))
-        | inr (inr gt) ↦ absurd (omega (arith, numbers_ascend j i d gt li))
-      ]
-
 pub percent_within : (n percent : ℕ) (rooms : List Room) → lawful n (Stated percent) rooms ≡ true → percent ≤ most_percent
 percent_within n percent rooms h = let p = (laws_of n (Stated percent) rooms h).method_in in grind (arith, nat_tests)
-
-pub none_detached : (n area : ℕ) (rooms : List Room) → lawful n (Remainder area) rooms ≡ true → AllByRecursion (λ r. is_detached r.kind ≡ false) rooms
-none_detached n area rooms h =
-    every_all (λ r. takes (Remainder area) r.kind) _ (λ r t. grind (arith, nat_tests)) rooms (laws_of n (Remainder area) rooms h).taken

@@ -4,6 +4,7 @@ ghost use Rattle.house.specs.Plan.{number_fits, area_fits, pipe_fits};
 // Of a house and of a room.
 const MOST_NUMBER: u32 = 999_999;
 
+// Rooms and claimants have limits of their own, which happen to be one number.
 pub(crate) const MOST_ROOMS: usize = 256;
 
 // Of an area, of a pipe figure, and of the areas of a house together.

@@ -14,6 +14,7 @@ pub enum Method {
 }
 
 impl Method {
+    // 0 under Stated and no `Option`: it is added to the areas.
     pub(crate) fn common_area(self) -> u32
         ensures { result ≡ common_area self }
     {

@@ -19,6 +19,7 @@ impl Kind {
     }
 
     // The pipe figure, 0 unless detached.
+    // No `Option`: 0 is in its range, so the test of a room needs no case for it.
     fn pipe(self) -> u32
         ensures { result ≡ pipe_of self }
     {

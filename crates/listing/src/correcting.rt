@@ -27,6 +27,7 @@ fn end_correction<R: Sharing>(account: &mut Account<R>, slip: Slip, ending: Endi
     requires { fits account.old.house account.old.state slip.house slip.period ≡ true }
     ensures after { account.new ≡ performed (R.shares account.old.rule) account.old (ending_call ending slip.house slip.period) }
 {
+    // A match and no closure: of a closure a proof would not know that it takes the slip.
     let ended = match ending {
         Ending::Book => account.book(slip),
         Ending::Withdraw => account.withdraw(slip),

@@ -67,6 +67,7 @@ impl RoomLine {
             Reason::TooManyRooms => Place::Text { line, column: 1 },
             Reason::RoomNotAscending => self.number_at,
             Reason::KindNotTaken => self.kind_at,
+            // The areas: a house gives no other reason.
             _ => self.area_at,
         }
     }

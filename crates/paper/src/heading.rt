@@ -41,6 +41,7 @@ fn read_method<'a>(cursor: Cursor<'a>) -> Result<(Method, Token<'a>), Misread>
 }
 
 // Refused, it tells from where the line has no lawful form.
+// A line and its number come apart, from the lines and from counting them.
 pub(crate) fn read_heading(text: &[u8], line: usize) -> Result<Heading, Misread>
     ensures { result ≡ on_line line (follow (house_form line) 1 text.now) }
 {

@@ -36,6 +36,7 @@ impl Amount for (u32, u32) {
     ghost amount = { billed };
 
     fn amount(&self) -> u64 {
+        // As `total` of billing, on which what is printed does not stand.
         u64::from(self.0) + u64::from(self.1)
     }
 }

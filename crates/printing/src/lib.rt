@@ -39,6 +39,7 @@ pub fn print_refused(out: &mut String, fault: Fault) -> Result<(), AllocError>
 pub fn print_refused_paper(out: &mut String, fault: Fault) -> Result<(), AllocError>
     ensures value { OnOk result (string_bytes out.new ≡ string_bytes out.old ++ refused_paper_line fault) }
 {
+    // A fault that lies nowhere in the text prints zeros.
     let (line, column) = match fault.place {
         Place::Text { line, column } => (line, column),
         Place::Room(_) | Place::Nowhere => (0, 0),

@@ -11,6 +11,7 @@ pub(crate) fn correct_late(
     ending: Ending,
 ) -> Result<(), Fault> {
     let slip = account.correct(room, reading)?;
+    // A match and no closure: of a closure a proof would not know that it takes the slip.
     let ended = match ending {
         Ending::Book => account.book(slip),
         Ending::Withdraw => account.withdraw(slip),

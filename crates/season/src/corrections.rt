@@ -28,6 +28,7 @@ pub(crate) fn correct_late(
 ) -> Result<Seen, Fault> {
     let slip = account.correct(room, reading)?;
     let seen = look(account, &slip);
+    // A match and no closure: of a closure a proof would not know that it takes the slip.
     let ended = match ending {
         Ending::Book => account.book(slip),
         Ending::Withdraw => account.withdraw(slip),

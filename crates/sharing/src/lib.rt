@@ -1,6 +1,7 @@
 // Sharing a total of whole units among claimants by weight.
 #![tactic(auto)]
 
+mod claims;
 pub mod paid;
 pub mod pot;
 pub mod remainders;

@@ -3,7 +3,7 @@ ghost use Rattle.sharing.specs.Remainders.{floors, rests, remainders};
 ghost use Rattle.sharing.specs.Cutoff.{above, Cut, unit, spared};
 ghost use Rattle.sharing.specs.RemainderLaws.{given, remainders_fair, remainders_titled};
 
-use crate::pot::Pot;
+use crate::claims::Claims;
 use crate::rule::Sharing;
 use fault::refusal::Fault;
 
@@ -11,9 +11,9 @@ use fault::refusal::Fault;
 #[derive(Clone, Copy, PartialEq, Eq, Debug, Default)]
 pub struct Remainders;
 
-// The place stands beside the pot and not in it: a pot is copied, a place is written to.
 // Writes each claimant's remainder, and tells the units left over.
-fn write_rests(pot: &Pot, place: &mut [u32]) -> u32
+// The place stands beside the claims and not in them: claims are copied, a place is written to.
+fn write_rests(pot: &Claims, place: &mut [u32]) -> u32
     requires { length place.old ≡ length pot.now.weights.now }
     ensures left { result ≡ pot.now.total - sum (floors pot.now.total (sum pot.now.weights.now) pot.now.weights.now) }
     ensures after { place.new ≡ rests pot.now.total (sum pot.now.weights.now) pot.now.weights.now }
@@ -80,7 +80,7 @@ impl OddUnits {
 }
 
 // Writes each claimant's share.
-fn write_shares(pot: &Pot, mut odd: OddUnits, place: &mut [u32])
+fn write_shares(pot: &Claims, mut odd: OddUnits, place: &mut [u32])
     requires { length place.old ≡ length pot.now.weights.now }
     ensures { place.new ≡ given pot.now.total (sum pot.now.weights.now) odd.cutoff odd.spare pot.now.weights.now }
 {
@@ -91,7 +91,7 @@ fn write_shares(pot: &Pot, mut odd: OddUnits, place: &mut [u32])
 }
 
 // Fills the place, which is as long as the weights and holds the remainders on the way.
-fn spread(pot: &Pot, place: &mut [u32])
+fn spread(pot: &Claims, place: &mut [u32])
     requires { length place.old ≡ length pot.now.weights.now }
     ensures { place.new ≡ remainders pot.now.total pot.now.weights.now }
 {
@@ -113,7 +113,7 @@ impl Sharing for Remainders {
 
     // Both rules have these lines: shared, they would need a contract on `spread` that is longer.
     fn share(&self, total: u32, weights: &[u32], place: &mut [u32]) -> Result<(), Fault> {
-        let pot = Pot::admit(total, weights, place.len())?;
+        let pot = Claims::admit(total, weights, place.len())?;
         spread(&pot, &mut place[..weights.len()]);
         Ok(())
     }

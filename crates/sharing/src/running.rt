@@ -2,7 +2,7 @@ ghost use Rattle.std.specs.Prelude.{◌≡◌, length, codes};
 ghost use Rattle.sharing.specs.Running.{running};
 ghost use Rattle.sharing.specs.RunningLaws.{running_fair, running_titled};
 
-use crate::pot::Pot;
+use crate::claims::Claims;
 use crate::rule::Sharing;
 use fault::refusal::Fault;
 
@@ -10,9 +10,10 @@ use fault::refusal::Fault;
 #[derive(Clone, Copy, PartialEq, Eq, Debug, Default)]
 pub struct Running;
 
+// The place stands beside the claims, as in `remainders`.
 // Fills the place, which is as long as the weights.
 #[tactic(auto, using(crate::specs::Totals::sum_front_le))]
-fn spread(pot: &Pot, place: &mut [u32])
+fn spread(pot: &Claims, place: &mut [u32])
     requires { length place.old ≡ length pot.now.weights.now }
     ensures { place.new ≡ running pot.now.total pot.now.weights.now }
 {
@@ -38,7 +39,7 @@ impl Sharing for Running {
 
     // Both rules have these lines: shared, they would need a contract on `spread` that is longer.
     fn share(&self, total: u32, weights: &[u32], place: &mut [u32]) -> Result<(), Fault> {
-        let pot = Pot::admit(total, weights, place.len())?;
+        let pot = Claims::admit(total, weights, place.len())?;
         spread(&pot, &mut place[..weights.len()]);
         Ok(())
     }

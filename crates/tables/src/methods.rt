@@ -65,6 +65,7 @@ impl<T: Copy, const N: usize> Table<T, N> {
     }
 
     // Holds from now on what `other` holds.
+    // In place: `clone` of what is generic may fail.
     pub fn copy_from(&mut self, other: &Self)
         ensures { self.new ≡ other.now }
     {

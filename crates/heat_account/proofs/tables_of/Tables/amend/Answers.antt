@@ -1,6 +1,6 @@
 use Rattle.std.proofs.Common.{◌-◌, map, length, get_or, sym, ap, ◌∙◌, arith}
 use Rattle.billing.specs.Period.{figures}
-use Rattle.heat_account.proofs.Balances.{beside_length}
+use Rattle.billing.proofs.Beside.{beside_length}
 use Rattle.heat_account.proofs.Entries.{unbilled_at}
 use Rattle.heat_account.proofs.tables_of.Tables.amend.Goals as goal
 
