@@ -1,5 +1,5 @@
-# Prints the public signatures and clauses, and the definitions and theorems of specs/, that differ from those of the
-# commit at which the design pass began, old and new; an argument names the newer commit.
+# Prints the public signatures and clauses, the definitions and theorems of specs/, and the lemmas of proofs/ that differ
+# from those of the commit at which the design pass began, old and new; an argument names the newer commit.
 import re,subprocess,collections,sys
 OLD='f96bd5c'; NEW=sys.argv[1] if len(sys.argv)>1 else 'HEAD'
 def ls(rev,pat):
@@ -89,7 +89,7 @@ chg=[]
 for k,v in od.items():
     if k in nd:
         a,b=ws(' '.join(v[1:])),ws(' '.join(nd[k][1:]))
-        if is_def(v) and a!=b:
+        if is_def(v) and is_def(nd[k]) and a!=b:
             chg.append((k,a,b))
 for k,a,b in chg:
     out+=['`%s`, %s\n'%(k[1],k[0]),'```text','- '+a,'+ '+b,'```\n']
@@ -100,10 +100,38 @@ out.append('New definitions: '+', '.join('`%s` (%s)'%(k[1],k[0]) for k in nw)+'.
 out.append('\n### Theorems of specs/\n')
 for k,v in od.items():
     if not is_def(v):
-        if k in nd and v[1]!=nd[k][1]:
+        if k in nd and v[1]!=nd[k][1] and not is_def(nd[k]):
             out+=['`%s`, %s\n'%(k[1],k[0]),'```text','- '+v[1],'+ '+nd[k][1],'```\n']
 mv=[k for k,v in od.items() if not is_def(v) and k not in nd and k in allnew]
-gt=[k for k,v in od.items() if not is_def(v) and k not in nd and k not in allnew]
+gt=[k for k,v in od.items() if not is_def(v) and k not in nd and k not in allnew and k[1]!='omega']
 out.append('Theorems that lie in proofs/ now: '+(', '.join('`%s` (%s)'%(k[1],k[0]) for k in mv) or 'none')+'.\n')
 out.append('Private steps of proofs in specs/ that are gone: '+(', '.join('`%s` (%s)'%(k[1],k[0]) for k in gt) or 'none')+'.\n')
+print('\n'.join(out))
+
+
+# Lemmas of proofs/: each name with its statement. Answers and invariants of loops are no lemmas.
+def lemmas(rev, pat=r'crates/[^/]+/proofs/.*\.antt$'):
+    d=collections.OrderedDict()
+    for f in ls(rev,pat):
+        if re.search(r'(Answers|Invariants|Lib)\.antt$',f): continue
+        lines=show(rev,f).split('\n'); i=0
+        while i<len(lines):
+            m=re.match(r"(  (?=(?:abbrev )?pub ))?((?:abbrev |unfoldable )?(?:pub )?(?:abbrev |unfoldable )?)(record |data )?([^\s(){}:]+) (:|.*\bwhere$)",lines[i])
+            if not m or lines[i].startswith(('use ','import ','--','module ')) or (m.group(5)!=':' and not m.group(3)):
+                i+=1; continue
+            indent=m.group(1) or ''; buf=[lines[i]]; i+=1
+            while i<len(lines) and lines[i].startswith(indent+' ') and not (indent and not lines[i].startswith(indent+'  ')):
+                buf.append(lines[i]); i+=1
+            d.setdefault((f.split('/')[1],m.group(4)),[]).append(ws(' '.join(buf)))
+    return d
+od,nd=lemmas(OLD),lemmas(NEW)
+everywhere=lemmas(NEW,r'crates/[^/]+/(specs|proofs)/.*\.antt$')
+bare=lambda v: sorted(set(re.sub(r'^pub ','',re.sub(r'^abbrev pub ','abbrev ',x)) for x in v))
+out=['\n### Lemmas of proofs/\n']
+for k,v in od.items():
+    if k in nd and bare(v)!=bare(nd[k]):
+        out+=['`%s`, %s\n'%(k[1],k[0]),'```text']+['- '+x for x in v]+['+ '+x for x in nd[k]]+['```\n']
+named=lambda ks: ', '.join('`%s` (%s)'%(k[1],k[0]) for k in ks) or 'none'
+out.append('Lemmas that are gone: '+named([k for k in od if k not in everywhere])+'.\n')
+out.append('New lemmas: '+named([k for k in nd if k not in od])+'.')
 print('\n'.join(out))
