@@ -116,11 +116,12 @@ def lemmas(rev, pat=r'crates/[^/]+/proofs/.*\.antt$'):
         if re.search(r'(Answers|Invariants|Lib)\.antt$',f): continue
         lines=show(rev,f).split('\n'); i=0
         while i<len(lines):
-            m=re.match(r"(  (?=(?:abbrev )?pub ))?((?:abbrev |unfoldable )?(?:pub )?(?:abbrev |unfoldable )?)(record |data )?([^\s(){}:]+) (:|.*\bwhere$)",lines[i])
-            if not m or lines[i].startswith(('use ','import ','--','module ')) or (m.group(5)!=':' and not m.group(3)):
+            m=re.match(r"(\s*)((?:abbrev |unfoldable )?(?:pub )?(?:abbrev |unfoldable )?)(record |data )?([^\W\d][\w'\-]*) (:|.*\bwhere$)",lines[i])
+            if not m or m.group(4) in ('use','module') or (m.group(5)!=':' and not m.group(3)):
                 i+=1; continue
-            indent=m.group(1) or ''; buf=[lines[i]]; i+=1
-            while i<len(lines) and lines[i].startswith(indent+' ') and not (indent and not lines[i].startswith(indent+'  ')):
+            indent=m.group(1); buf=[lines[i]]; i+=1
+            deeper=lambda l: l.startswith(indent+' ') and l[len(indent):].startswith('  ')
+            while i<len(lines) and deeper(lines[i]):
                 buf.append(lines[i]); i+=1
             d.setdefault((f.split('/')[1],m.group(4)),[]).append(ws(' '.join(buf)))
     return d

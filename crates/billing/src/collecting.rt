@@ -17,6 +17,7 @@ pub(crate) fn collect<T: Copy + Default, I: Iterator<Item = T>>(items: I) -> Per
     ensures ran { Drains I.next_gives items result }
     ensures runs { WholeRun I.next_gives items (λ p. result ≡ p.items) }
 {
+    // A loop: a table takes values one by one, since it may be full.
     let mut all = Table::filled(T::default(), 0);
     for item in items {
         // Never full.

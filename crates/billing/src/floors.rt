@@ -89,7 +89,7 @@ impl Floors {
         collect(pairs.map(|(room, share)| self.gross(*room, *share)))
     }
 
-    // The true sum: 256 surcharges within the limits cannot wrap it. As all sums over rooms, it is a loop, room by room: that form is fixed.
+    // The true sum: 256 surcharges within the limits cannot wrap it. As all sums of a method over the rooms, it is a loop, room by room: that form is fixed.
     pub(crate) fn surcharges(self, rooms: &PerRoom<CountedRoom>) -> u64
         requires { AllByRecursion (Among self) rooms.now }
         ensures { result ≡ sum (map (surcharge_by self) rooms.now) }

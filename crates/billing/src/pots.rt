@@ -39,6 +39,7 @@ pub(crate) fn share_pot<R: Sharing>(
     ensures { result ≡ pot_shares (R.shares rule.now) pot claims.now }
 {
     let weights = gather(claims);
+    // An array and no table: a rule writes into a slice.
     let mut shares = [0; MOST_CLAIMANTS];
     match rule.share(pot, weights.as_slice(), &mut shares) {
         Ok(()) => put_back(claims, &shares[..weights.len()]),

@@ -40,7 +40,7 @@ fn write_out<W: Write>(out: &mut String, writer: &mut W) -> io::Result<()>
     Ok(())
 }
 
-// The buffer and the writer are two borrows that end apart, so they pass side by side.
+// The buffer and the writer pass side by side: a struct of two borrows of the caller would say no more.
 // Performs an event, and writes out what it prints.
 fn keep_event<W: Write>(
     account: &mut Account<Remainders>,

@@ -13,7 +13,7 @@ pub fn ends_line(byte: u8) -> bool
     byte == LINE_END
 }
 
-// How many bytes the first line has, its end among them.
+// How many bytes the first line has, its end among them. A length has no type that could say of which text.
 pub fn line_length(text: &[u8]) -> usize
     ensures value { result ≡ line_length text.now }
     ensures within { result ≤ length text.now }

@@ -1,4 +1,5 @@
 // How far a text goes on with a word, or with a number.
+// That a place is within the text stands in each contract: a type of its own could not say of which text.
 ghost use Rattle.std.specs.Prelude.{◌≡◌, ◌≤◌, length, take, ◌==◌, slice_index};
 ghost use Rattle.std.specs.Str.Parse.{digits_value, AllDigits};
 ghost use Rattle.forms.specs.Form.{common, digits_at, numeral_at};

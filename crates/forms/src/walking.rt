@@ -39,6 +39,7 @@ impl<'a> Cursor<'a> {
     }
 
     // That the line is lawful up to here, and not with the next byte.
+    // Apart from `place`: where a text goes on is no refusal yet, and a place is one of three kinds.
     pub fn misread(&self) -> Misread
         ensures { result ≡ record { line = self.now.line; column = self.now.column } }
     {

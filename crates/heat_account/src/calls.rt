@@ -20,6 +20,7 @@ use sharing::rule::Sharing;
 
 impl<R: Sharing> Account<R> {
     // Uses the house up, and gives its account with no period closed.
+    // That the house is lawful is known only where a field of it is used, so it is promised here too.
     pub fn open(house: House, rule: R) -> Account<R>
         ensures value { result ≡ record { house = house; rule = rule; state = no_state (length house.rooms) } }
         ensures ledger { Goes (R.shares rule) house result.state [] }
@@ -109,7 +110,7 @@ impl<R: Sharing> Account<R> {
         self.end(call, slip)
     }
 
-    // Drops the correction. A refused slip comes back.
+    // Drops the correction. A refused slip comes back. Apart from `book` in its call alone, over the one `end`.
     pub fn withdraw(&mut self, slip: Slip) -> Result<(), (Fault, Slip)>
         ensures value { result ≡ with_slip (result_of self.old.house self.old.state (Withdraw slip.house slip.period) (λ _. tt)) slip }
         ensures after { self.new ≡ performed (R.shares self.old.rule) self.old (Withdraw slip.house slip.period) }

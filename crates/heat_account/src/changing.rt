@@ -42,6 +42,7 @@ impl<R: Sharing> Account<R> {
     }
 
     // Works the corrected period out, once for all rooms.
+    // `held` hands on what the invariant says, which is known only where a field is used.
     fn work_changes(&self) -> Result<Table<i64, ROOMS>, Reason>
         ensures value { result ≡ if_correcting self.now.state (Ok (changes (R.shares self.now.rule) self.now.house self.now.state)) }
         ensures held { Holds self.now.house self.now.state }

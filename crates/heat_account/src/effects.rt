@@ -24,6 +24,7 @@ impl<R: Sharing> Account<R> {
         Ok(Answer::Done)
     }
 
+    // Total and common figure, place and reading, house and period: each pair is what the match takes from a call or a stage.
     fn close_period(&mut self, total: u32, common: Option<u32>) -> Result<Answer, Reason>
         requires { self.old.state.stage ≡ Taking }
         ensures value { result ≡ judged_answer self.old.house self.old.state (Close total common) }
@@ -83,6 +84,7 @@ impl<R: Sharing> Account<R> {
 
     // One match, so that no pair of stage and call is left out.
     // What a call does depends on the stage together with the call.
+    // `held` hands on what the invariant says, which is known only where a field is used.
     pub(crate) fn act(&mut self, call: Call) -> Result<Answer, Reason>
         ensures value { result ≡ judged_answer self.old.house self.old.state call }
         ensures after { self.new ≡ performed (R.shares self.old.rule) self.old call }

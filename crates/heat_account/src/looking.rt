@@ -10,6 +10,7 @@ use house::room::Room;
 use sharing::rule::Sharing;
 
 impl<R: Sharing> Account<R> {
+    // What an invariant says is known only where a field is used, so it is promised here too.
     pub fn rooms(&self) -> &[Room]
         ensures value { result.now ≡ self.now.house.rooms }
         ensures held { Holds self.now.house self.now.state }

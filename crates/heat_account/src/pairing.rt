@@ -17,6 +17,7 @@ pub(crate) fn zip_with<A: Copy, B: Copy, C: Copy + Default, F: Fn(A, B) -> C>(
     requires few { length xs.now ≤ 256 }
     ensures { Made (λ x y z. F.post f x y z) xs.now ys.now result }
 {
+    // A loop, as in `collect`.
     let mut made = Table::filled(C::default(), 0);
     for (x, y) in xs.iter().zip(ys) {
         // Never full.

@@ -25,6 +25,7 @@ impl<R: Sharing> Account<R> {
 }
 
 // Opens a house's account and performs the calls. The answers go to the front of the place, as many as it takes.
+// The place is the caller's: the number of calls has no bound, and no memory is asked for.
 pub fn run<R: Sharing>(
     house: House,
     rule: R,

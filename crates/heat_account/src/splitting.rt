@@ -20,6 +20,7 @@ impl<R: Sharing> Account<R> {
     }
 
     // Writes each holder's share of a room's last bill to the front of the place, by stake and the account's rule.
+    // The place is the caller's, as that of a rule.
     pub fn split(&self, room: u32, stakes: &[u32], place: &mut [u32]) -> Result<(), Fault>
         ensures value { result ≡ split_told (figures_of self.now.house self.now.state room) stakes.now place.old }
         ensures after { place.new ≡ split_held (R.shares self.now.rule) (figures_of self.now.house self.now.state room) stakes.now place.old }

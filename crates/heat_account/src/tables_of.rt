@@ -11,7 +11,7 @@ use billing::bill::{Bill, total};
 use house::House;
 use tables::Table;
 
-// As many as a house has at most.
+// As many as a house has at most; `MOST_ROOMS` is private to its crate.
 pub const ROOMS: usize = 256;
 
 // A closed period: its readings and what its closing brought.
@@ -23,7 +23,8 @@ pub(crate) struct LastPeriod {
 }
 
 #[derive(Drop)]
-// Columns and no table of rows: the calls that show all bills or all balances lend a column as a slice.
+// Columns and no table of rows: the calls that show all bills or all balances lend a column as a slice, and readings
+// stand beside the rooms as they come. A plain struct: the Model is the account's, which says what the tables hold.
 pub(crate) struct Tables {
     // Of the open period.
     pub(crate) readings: Table<Option<u32>, ROOMS>,
@@ -57,7 +58,7 @@ fn take_off(balances: &[u64], bills: &[Bill]) -> Table<u64, ROOMS>
 }
 
 impl Tables {
-    // Of a house with no period closed.
+    // Of a house with no period closed. `lawful` hands on its invariant, which is known only where a field is used.
     pub(crate) fn of(house: &House) -> Tables
         ensures value { state_of result ≡ no_state (length house.now.rooms) }
         ensures lawful { lawful house.now.number house.now.method house.now.rooms ≡ true }
@@ -91,6 +92,7 @@ impl Tables {
     }
 
     // Closes the open period with these bills.
+    // Total and common figure are what the call hands in, and so are place and reading below.
     pub(crate) fn close(&mut self, total: u32, common: Option<u32>, bills: Table<Bill, ROOMS>)
         requires long { length bills ≡ length self.old.balances }
         requires few { self.old.closed < 600 }

@@ -20,6 +20,7 @@ use sharing::rule::Sharing;
 use tables::Table;
 
 // That a place is within this house stands in each contract: a type of its own could not say of which house.
+// Pairs such as total and common figure are what the match on the call takes from it.
 impl<R: Sharing> Account<R> {
     // The place of a room that takes this reading.
     pub(crate) fn meter(&self, room: u32, reading: u32) -> Result<usize, Reason>
@@ -51,6 +52,7 @@ impl<R: Sharing> Account<R> {
     }
 
     // The bills of the last closed period with another reading.
+    // `held` hands on what the invariant says, which is known only where a field is used.
     pub(crate) fn work_again(
         &self,
         place: usize,
@@ -114,7 +116,7 @@ impl<R: Sharing> Account<R> {
         }
     }
 
-    // Own heat and common share of a room's last bill.
+    // Own heat and common share of a room's last bill. `held` hands on what the invariant says, which is known only where a field is used.
     pub(crate) fn look_up_bill(&self, room: u32) -> Result<Bill, Reason>
         ensures value { result ≡ judged_value self.now.house self.now.state (Bill room) (λ place. slice_index_or self.now.state.bills place (0, 0)) }
         ensures small { IfOk result (λ b. figures b ≤ 100000000) }
@@ -125,6 +127,7 @@ impl<R: Sharing> Account<R> {
         Ok(bills[place])
     }
 
+    // Apart from `look_up_bill`: a balance is told before any closing, a bill is not. `held` as there.
     pub(crate) fn look_up_balance(&self, room: u32) -> Result<u64, Reason>
         ensures value { result ≡ judged_value self.now.house self.now.state (Balance room) (λ place. slice_index self.now.state.balances place) }
         ensures held { Holds self.now.house self.now.state }
@@ -134,6 +137,7 @@ impl<R: Sharing> Account<R> {
         Ok(balances[place])
     }
 
+    // Apart from `tell_balance`: the two answers differ in what they carry.
     pub(crate) fn tell_bill(&self, room: u32) -> Result<Answer, Reason>
         ensures { result ≡ judged_answer self.now.house self.now.state (Bill room) }
     {

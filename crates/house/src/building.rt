@@ -48,6 +48,7 @@ impl House {
         self.method
     }
 
+    // What an invariant says is known only where a field is used, so it is promised here too.
     pub fn rooms(&self) -> &[Room]
         ensures value { result.now ≡ self.now.rooms }
         ensures lawful { lawful self.now.number self.now.method self.now.rooms ≡ true }

@@ -13,6 +13,7 @@ pub enum Method {
     Stated { floor_percent: u32 },
 }
 
+// Matches and no trait: a house holds its method as a value, and each match names what a further method has to bring.
 impl Method {
     // 0 under Stated and no `Option`: it is added to the areas.
     pub(crate) fn common_area(self) -> u32

@@ -23,7 +23,8 @@ fn before_blank(input: &[u8]) -> usize
     ensures value { result ≡ before_blank true input.now }
     ensures within { result ≤ length input.now }
 {
-    // Whether a line is empty hangs on the byte before too, which a closure of `position` would have to keep.
+    // Whether a line is empty hangs on the byte before too, which a closure of `position` would have to keep; a sum of the
+    // lengths of `Lines` would have to show that it stays in range.
     let mut begins = true;
     for (i, byte) in input.iter().enumerate() {
         let ends = ends_line(*byte);

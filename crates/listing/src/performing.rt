@@ -35,6 +35,8 @@ pub fn perform_line<R: Sharing>(
     print_outcome(account, outcome, out)
 }
 
+// `lawful` hands on what the invariant says, which is known only where a field is used.
+// The account and the buffer are two borrows that end apart, so they pass side by side.
 fn print_outcome<R: Sharing>(
     account: &Account<R>,
     outcome: Result<Outcome, Fault>,

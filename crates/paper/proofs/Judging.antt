@@ -2,7 +2,7 @@
 use Rattle.std.proofs.Common.{◌≡◌, ℕ, Bool, true, not, ◌&&◌, Some, None, Ok, Err, IsErrAnd, MatchResult, Option, Result, sym, ap, ◌∙◌, ◌<◌, [], ◌∷◌, length, arith, length-append}
 use Rattle.std.proofs.lemmas.Result.{err_from_is_err_and}
 use Rattle.std.proofs.lemmas.Bool.{cond-false}
-use Rattle.fault.specs.Numbers.{fault_of, number}
+use Rattle.fault.specs.Numbers.{fault_of}
 use Rattle.fault.specs.declared.reason.Reason.{Reason}
 use Rattle.fault.specs.declared.refusal.Fault.{Fault}
 use Rattle.forms.specs.declared.misread.Misread.{Misread}
@@ -25,7 +25,7 @@ ok_is_err : {X : Type 0} {x : X} {f : Fault} → ◌≡◌ {A = Result X Fault} 
 ok_is_err h = cc
 
 -- what the house answers, with the place in the line
-module _ (Placed : Fault → Fault → Type 0) (line : ℕ) (plan new old : Plan) (r : RoomLine) (told : Result (Unit {0}) Fault) (where_at : (e f : Fault) → Placed e f → f ≡ fault_of e.reason (fault_at line r (number e.reason))) where
+module _ (Placed : Fault → Fault → Type 0) (line : ℕ) (plan new old : Plan) (r : RoomLine) (told : Result (Unit {0}) Fault) (where_at : (e f : Fault) → Placed e f → f ≡ fault_of e.reason (fault_at line r e.reason)) where
   by_case : (o : Option Reason) (given : Result (Unit {0}) Fault) → answer o r.room ≡ given → MatchResult given (λ x. told ≡ Ok x) (λ e. IsErrAnd told (Placed e)) → new ≡ settled o (with_room plan r.room) old → placed told new ≡ taken line plan r o
   by_case None (Ok u) is same after = ap (λ (v : Result (Unit {0}) Fault). placed v new) same ∙ ap Ok after
   by_case None (Err e) is same after = absurd (ok_is_err is)
@@ -34,7 +34,7 @@ module _ (Placed : Fault → Fault → Type 0) (line : ℕ) (plan new old : Plan
       let given : house_fault reason r.room ≡ e = cc in
       let why : e.reason ≡ reason = sym (ap (λ (f : Fault). f.reason) given) in
       let p = err_from_is_err_and told same in
-      ap (λ (v : Result (Unit {0}) Fault). placed v new) p.1 ∙ ap Err (where_at e p.0 p.2 ∙ ap (λ (v : Reason). fault_of v (fault_at line r (number v))) why)
+      ap (λ (v : Result (Unit {0}) Fault). placed v new) p.1 ∙ ap Err (where_at e p.0 p.2 ∙ ap (λ (v : Reason). fault_of v (fault_at line r v)) why)
 
   pub judged : (o : Option Reason) (given : Result (Unit {0}) Fault) → given ≡ answer o r.room → MatchResult given (λ x. told ≡ Ok x) (λ e. IsErrAnd told (Placed e)) → new ≡ settled o (with_room plan r.room) old → placed told new ≡ taken line plan r o
   judged o given is same after = by_case o given (sym is) same after

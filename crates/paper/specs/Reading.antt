@@ -1,11 +1,10 @@
 -- What a house paper says, or the first fault in it.
 use Rattle.std.specs.Prelude.{ℕ, ◌+◌, cond, not, List, [], ◌∷◌, length, Some, None, Ok, Err, Option, Result, ◌==◌}
 use Rattle.fault.specs.Numbers.{fault_of}
-use Rattle.fault.specs.Numbers as numbers
 use Rattle.fault.specs.declared.place.Place.{Place}
 use Rattle.fault.specs.declared.place.Place.TheVariants.{Text}
 use Rattle.fault.specs.declared.reason.Reason.{Reason}
-use Rattle.fault.specs.declared.reason.Reason.TheVariants.{MalformedLine, NoRoomLine, NumberOutOfRange}
+use Rattle.fault.specs.declared.reason.Reason.TheVariants.{MalformedLine, NoRoomLine, NumberOutOfRange, TooManyRooms, RoomNotAscending, KindNotTaken}
 use Rattle.fault.specs.declared.refusal.Fault.{Fault}
 use Rattle.house.specs.Plan.{Plan, bare, with_room, number_fits, area_fits, method_fits, room_refusal}
 use Rattle.forms.specs.Form.{follow}
@@ -33,18 +32,17 @@ headed (Ok h) =
 abbrev pub misfit_at : RoomLine → Place
 misfit_at r = cond (not (number_fits r.room.number)) r.number_at (cond (not (area_fits r.room.area)) r.area_at r.pipe_at)
 
--- where a room line is at fault, by the number of the reason
-abbrev pub fault_at : ℕ → RoomLine → ℕ → Place
-fault_at line r number =
-    cond (number == 3) (misfit_at r)
-    (cond (number == 4) (Text line 1)
-    (cond (number == 5) r.number_at
-    (cond (number == 6) r.kind_at
-    r.area_at)))
+-- where a room line is at fault: the areas pass the limit, if it is nothing else
+abbrev pub fault_at : ℕ → RoomLine → Reason → Place
+fault_at line r NumberOutOfRange = misfit_at r
+fault_at line r TooManyRooms = Text line 1
+fault_at line r RoomNotAscending = r.number_at
+fault_at line r KindNotTaken = r.kind_at
+fault_at line r other = r.area_at
 
 abbrev pub taken : ℕ → Plan → RoomLine → Option Reason → Result Plan Fault
 taken line plan r None = Ok (with_room plan r.room)
-taken line plan r (Some reason) = Err (fault_of reason (fault_at line r (numbers.number reason)))
+taken line plan r (Some reason) = Err (fault_of reason (fault_at line r reason))
 
 -- the house with the room of a further line
 abbrev pub joined : ℕ → Plan → Result RoomLine ℕ → Result Plan Fault

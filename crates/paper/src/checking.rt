@@ -1,6 +1,6 @@
 // What a paper's writer did wrong, and where.
 ghost use Rattle.std.specs.Prelude.{◌≡◌, true, IfOk};
-ghost use Rattle.fault.specs.Numbers.{number, fault_of};
+ghost use Rattle.fault.specs.Numbers.{fault_of};
 ghost use Rattle.fault.specs.declared.reason.Reason.TheVariants.{NumberOutOfRange};
 ghost use Rattle.house.specs.Plan.{bare, number_fits, method_fits};
 ghost use Rattle.forms.specs.Form.{follow};
@@ -60,7 +60,7 @@ impl RoomLine {
 
     // Where the line is at fault.
     fn fault_at(&self, line: usize, reason: Reason) -> Place
-        ensures { result ≡ fault_at line self.now (number reason) }
+        ensures { result ≡ fault_at line self.now reason }
     {
         match reason {
             Reason::NumberOutOfRange => self.misfit_at(),
@@ -74,7 +74,7 @@ impl RoomLine {
 
     // The room is refused for this reason.
     fn refused(&self, line: usize, reason: Reason) -> Fault
-        ensures { result ≡ fault_of reason (fault_at line self.now (number reason)) }
+        ensures { result ≡ fault_of reason (fault_at line self.now reason) }
     {
         Fault::new(reason, self.fault_at(line, reason))
     }

@@ -21,7 +21,7 @@ pub(crate) struct Heading {
     pub(crate) figure_at: Place,
 }
 
-// The method, and the figure that it was read with.
+// The method, and the figure that it was read with. A match on the first byte, as the project asks.
 fn read_method<'a>(cursor: Cursor<'a>) -> Result<(Method, Token<'a>), Misread>
     ensures { method_seen result ≡ line_says (method_form (λ m x. (m, mark cursor.entry.line x))) cursor.entry }
 {
@@ -41,7 +41,7 @@ fn read_method<'a>(cursor: Cursor<'a>) -> Result<(Method, Token<'a>), Misread>
 }
 
 // Refused, it tells from where the line has no lawful form.
-// A line and its number come apart, from the lines and from counting them.
+// A text and its line number pass side by side: they are the two parts of a cursor, which is made here.
 pub(crate) fn read_heading(text: &[u8], line: usize) -> Result<Heading, Misread>
     ensures { result ≡ on_line line (follow (house_form line) 1 text.now) }
 {

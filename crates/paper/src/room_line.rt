@@ -31,6 +31,7 @@ pub(crate) struct Described<'a> {
     pub(crate) pipe: Option<Token<'a>>,
 }
 
+// A match on the first byte, as the project asks.
 fn read_kind<'a>(cursor: Cursor<'a>) -> Result<Described<'a>, Misread>
     ensures { let at = mark cursor.entry.line in described_seen result ≡ line_says (kind_form (λ kind s pipe. (kind, at s, option_map at pipe))) cursor.entry }
 {

@@ -23,6 +23,7 @@ pub fn paper_length(house: &House) -> usize
     put_house(&mut [], house)
 }
 
+// The buffer is the caller's: no memory is asked for.
 // Writes the paper to the front of the buffer, and tells its length in bytes. A buffer that is
 // shorter than the paper keeps its content, and so do the bytes past the paper.
 pub fn write_house(house: &House, buffer: &mut [u8]) -> Result<usize, Fault>

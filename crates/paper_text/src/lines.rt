@@ -13,6 +13,7 @@ use house::room::{Kind, Room};
 // What ends a line, after its last number.
 const CLOSING: &[u8] = b"))\n";
 
+// Here and in `put_kind` a match: each case is a form of its own, and a closure in its place would need the match too.
 fn put_method(page: &mut Page, method: Method)
     ensures { Put (method_text method) page.old page.new }
 {
@@ -74,7 +75,7 @@ fn put_paper(buffer: &mut [u8], number: u32, method: Method, rooms: &[Room]) -> 
     page.len()
 }
 
-// The same of a house's own paper.
+// The same of a house's own paper. Apart, since what the invariant of a house says is known through its calls alone.
 pub(crate) fn put_house(buffer: &mut [u8], house: &House) -> usize
     ensures value { result ≡ length (paper_text house.now) }
     ensures after { result ≤ length buffer.old → buffer.new ≡ written (paper_text house.now) buffer.old }

@@ -10,7 +10,7 @@ use house::room::{Kind, Room};
 use sharing::remainders::Remainders;
 use std::io;
 
-// What ends the season early.
+// What ends the season early. Its two `From` are written out: no library of the project derives them.
 pub(crate) enum Stop {
     Refused(Fault),
     Output(io::Error),
@@ -42,6 +42,7 @@ fn house_seven() -> Result<House, Fault> {
     Ok(house)
 }
 
+// `season` has the same for its tests: what takes a closure asks something of its caller, so it cannot be public.
 fn of_each_flat<T: Copy + Default, F: Fn(u32) -> Result<T, Fault>>(
     figure: F,
 ) -> Result<[T; FLATS], Fault>
@@ -69,6 +70,7 @@ fn close_period(
     for (flat, (own, common)) in (1..).zip(&bills) {
         println!(rt; "flat {flat}: own heat {own}, common share {common}")?;
     }
+    // A fold: `sum` would have to show that it stays in range.
     let sum = bills
         .iter()
         .map(|(own, common)| u64::from(*own) + u64::from(*common))

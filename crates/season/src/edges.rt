@@ -37,6 +37,7 @@ fn check_edge(rt: &impl Abort, edge: &Edge) -> Result<(), Fail> {
         account.read(*room, *reading)?;
     }
     assert_eq!(rt; account.close(total, edge.common), Ok(1), "total {total}");
+    // By hand: a balance may be refused, which ends the test.
     let mut sum = 0u64;
     for (room, (own, common)) in (1..).zip(edge.bills) {
         assert_eq!(rt; account.bill(room), Ok((*own, *common)), "total {total}");

@@ -54,7 +54,7 @@ pub(crate) struct Figures {
     pub(crate) balances: [u64; 3],
 }
 
-// What is told of each of the first three rooms.
+// What is told of each of the first three rooms. `sample` has the same: what takes a closure cannot be public.
 pub(crate) fn of_each_room<T: Copy + Default, F: Fn(u32) -> Result<T, Fault>>(
     figure: F,
 ) -> Result<[T; 3], Fault>

@@ -7,6 +7,7 @@ use crate::sums::sum_of;
 use fault::refusal::Fault;
 
 // Shares under any rule, with what the rule's laws tell of the shares.
+// Here and below the place is the caller's, as in the rule.
 fn share_by_law<R: Sharing>(
     rule: &R,
     total: u32,

@@ -9,7 +9,7 @@ use fault::reason::Reason;
 use fault::refusal::Fault;
 
 pub const MOST_CLAIMANTS: usize = 256;
-// Of a total and of the sum of the weights.
+// Of a total and of the sum of the weights; that the limit of areas is the same number is chance.
 pub const MOST_UNITS: u32 = 100_000_000;
 
 // A total, and the sum of the weights that it is shared by.

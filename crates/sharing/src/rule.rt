@@ -11,7 +11,7 @@ pub trait Sharing {
 
     ghost titled: { Self → List ℕ };
 
-    // Writes each claimant's share to the front of the place.
+    // Writes each claimant's share to the front of the place, which is the caller's: a rule asks for no memory.
     fn share(&self, total: u32, weights: &[u32], place: &mut [u32]) -> Result<(), Fault>
         ensures value { result ≡ answer (refusal total weights.now (length place.old)) tt }
         ensures after { place.new ≡ placed (refusal total weights.now (length place.old)) (shares self.now total weights.now) place.old };
