@@ -1,6 +1,7 @@
 // A season of house 7: two periods, a late reading in each, and a reading that is refused.
 use crate::late::correct_late;
 use crate::{AREAS, FLATS};
+use billing::bill;
 use events::event::Ending;
 use fault::refusal::Fault;
 use heat_account::Account;
@@ -73,7 +74,7 @@ fn close_period(
     // A fold: `sum` would have to show that it stays in range.
     let sum = bills
         .iter()
-        .map(|(own, common)| u64::from(*own) + u64::from(*common))
+        .map(|figures| bill::total(*figures))
         .fold(0, u64::saturating_add);
     println!(rt; "sum {sum}")?;
     Ok(())
@@ -89,6 +90,7 @@ fn print_balances(rt: &HostRuntime, before: &[u64; FLATS], after: &[u64; FLATS])
     for (flat, (old, new)) in (1..).zip(before.iter().zip(after)) {
         print_change(rt, flat, *old, *new)?;
     }
+    // A fold, as above.
     let sum = after.iter().copied().fold(0, u64::saturating_add);
     println!(rt; "sum {sum}")
 }
