@@ -38,16 +38,23 @@ impl<'a> Claims<'a> {
         u64::from(self.total) * u64::from(weight)
     }
 
-    // The whole units that fall to a weight: none where nobody has a weight.
+    // What falls to a weight, in whole units: none where nobody has a weight.
+    fn part(&self, weight: u32) -> u64
+        ensures { result ≡ self.now.total * weight / sum self.now.weights.now }
+    {
+        self.product(weight)
+            .checked_div(u64::from(self.all))
+            .unwrap_or(0)
+    }
+
+    // The whole units that fall to a weight of those that claim.
     #[tactic(auto, using(crate::specs::Parts::capped))]
     // Here and in `rest`, `as` narrows what a proof shows to fit; `try_from` would bring a branch that is never taken.
     pub(crate) fn floor(&self, weight: u32) -> u32
         requires { weight ≤ sum self.now.weights.now }
         ensures { result ≡ self.now.total * weight / sum self.now.weights.now }
     {
-        self.product(weight)
-            .checked_div(u64::from(self.all))
-            .unwrap_or(0) as u32
+        self.part(weight) as u32
     }
 
     // What the whole units leave of a weight's part, over the sum of the weights.

@@ -27,15 +27,18 @@ fn write_rests(pot: &Claims, place: &mut [u32]) -> u32
     left
 }
 
-fn count_above(rests: &[u32], limit: u32) -> usize
+// A sum in the width of the remainders: `filter` and `count` would branch at each and count in words twice as wide.
+fn count_above(rests: &[u32], limit: u32) -> u32
+    requires { length rests.now ≤ 256 }
     ensures { result ≡ above limit rests.now }
 {
-    rests.iter().filter(|rest| **rest > limit).count()
+    rests.iter().map(|rest| u32::from(*rest > limit)).sum()
 }
 
 // The remainder that parts those who get one of the units left over from those who do not, by halving; none is above `most`.
 #[tactic(auto, using(crate::specs::Cutoffs::at_least_none))]
-fn find_cutoff(rests: &[u32], left: usize, most: u32) -> u32
+fn find_cutoff(rests: &[u32], left: u32, most: u32) -> u32
+    requires few { length rests.now ≤ 256 }
     requires takers { left ≤ length rests.now }
     requires bound { above most rests.now ≡ 0 }
     ensures { Cut left result rests.now }
@@ -58,7 +61,7 @@ fn find_cutoff(rests: &[u32], left: usize, most: u32) -> u32
 #[derive(Drop)]
 struct OddUnits {
     cutoff: u32,
-    spare: usize,
+    spare: u32,
 }
 
 impl OddUnits {
@@ -95,8 +98,7 @@ fn spread(pot: &Claims, place: &mut [u32])
     requires { length place.old ≡ length pot.now.weights.now }
     ensures { place.new ≡ remainders pot.now.total pot.now.weights.now }
 {
-    // `usize` has no `From` of 32 bits.
-    let left = write_rests(pot, place) as usize;
+    let left = write_rests(pot, place);
     let cutoff = find_cutoff(place, left, pot.all);
     let spare = left - count_above(place, cutoff);
     write_shares(pot, OddUnits { cutoff, spare }, place);

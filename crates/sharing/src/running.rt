@@ -1,4 +1,4 @@
-ghost use Rattle.std.specs.Prelude.{◌≡◌, length, codes};
+ghost use Rattle.std.specs.Prelude.{◌≡◌, ◌+◌, ◌-◌, ◌*◌, ◌/◌, ◌≤◌, length, codes, sum};
 ghost use Rattle.sharing.specs.Running.{running};
 ghost use Rattle.sharing.specs.RunningLaws.{running_fair, running_titled};
 
@@ -10,21 +10,43 @@ use fault::refusal::Fault;
 #[derive(Clone, Copy, PartialEq, Eq, Debug, Default)]
 pub struct Running;
 
+// How far the weights have run, and what falls to all of them so far.
+#[derive(Drop)]
+struct RunningSum {
+    passed: u32,
+    fallen: u32,
+}
+
+impl RunningSum {
+    // The share of the next claimant.
+    fn next(&mut self, pot: &Claims, weight: u32) -> u32
+        requires within { self.old.passed + weight ≤ sum pot.now.weights.now }
+        requires rises { self.old.fallen ≤ pot.now.total * (self.old.passed + weight) / sum pot.now.weights.now }
+        ensures value { result ≡ pot.now.total * (self.old.passed + weight) / sum pot.now.weights.now - self.old.fallen }
+        ensures passed { self.new.passed ≡ self.old.passed + weight }
+        ensures fallen { self.new.fallen ≡ pot.now.total * (self.old.passed + weight) / sum pot.now.weights.now }
+    {
+        let before = self.fallen;
+        self.passed += weight;
+        self.fallen = pot.floor(self.passed);
+        self.fallen - before
+    }
+}
+
 // The place stands beside the claims, as in `remainders`.
 // Fills the place, which is as long as the weights.
-#[tactic(auto, using(crate::specs::Totals::sum_front_le))]
+#[tactic(auto, using(crate::specs::Totals::sum_front_le, crate::specs::Parts::rising))]
 fn spread(pot: &Claims, place: &mut [u32])
     requires { length place.old ≡ length pot.now.weights.now }
     ensures { place.new ≡ running pot.now.total pot.now.weights.now }
 {
-    let mut passed = 0;
-    let mut before = 0;
+    let mut run = RunningSum {
+        passed: 0,
+        fallen: 0,
+    };
     // By index: a proof knows nothing of what a zip over `iter_mut` has written.
     for (i, weight) in pot.weights.iter().enumerate() {
-        passed += *weight;
-        let fallen = pot.floor(passed);
-        place[i] = fallen - before;
-        before = fallen;
+        place[i] = run.next(pot, *weight);
     }
 }
 

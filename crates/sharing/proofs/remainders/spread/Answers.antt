@@ -9,6 +9,7 @@ find_cutoff-cutoff-requires c =
     let ws = c.args.pot.now.weights.now in
     let weighed : 0 < t → 0 < sum ws = λ h. grind arith in
     record {
+      few = grind arith;
       takers = grind (arith, takers t ws weighed);
       bound = grind (arith, bounded t ws weighed);
     }
