@@ -1,8 +1,9 @@
-ghost use Rattle.std.specs.Prelude.{◌≡◌};
+ghost use Rattle.std.specs.Prelude.{◌≡◌, []};
 ghost use Rattle.billing.specs.Pots.{pot_shares, Shareable};
+ghost use Rattle.billing.specs.Claims as spec;
 ghost use Rattle.billing.specs.Claims.{claim, claims};
 
-use crate::collecting::{PerRoom, collect};
+use crate::collecting::{PerRoom, fill};
 use crate::counting::{CountedRoom, Role};
 use crate::floors::Floors;
 use crate::pots::share_pot;
@@ -30,10 +31,14 @@ impl Basis {
         }
     }
 
-    fn claims(self, rooms: &PerRoom<CountedRoom>) -> PerRoom<Option<u32>>
-        ensures { result ≡ claims self rooms.now }
+    fn claims(self, rooms: &PerRoom<CountedRoom>, claims: &mut PerRoom<Option<u32>>)
+        requires { claims.old ≡ [] }
+        ensures { claims.new ≡ spec.claims self rooms.now }
     {
-        collect(rooms.as_slice().iter().map(|room| self.claim(*room)))
+        fill(
+            claims,
+            rooms.as_slice().iter().map(|room| self.claim(*room)),
+        );
     }
 }
 
@@ -47,5 +52,7 @@ pub(crate) fn share_by<R: Sharing>(
     requires { Shareable pot (claims basis rooms.now) }
     ensures { result ≡ pot_shares (R.shares rule.now) pot (claims basis rooms.now) }
 {
-    share_pot(rule, pot, &basis.claims(rooms))
+    let mut claims = PerRoom::filled(None, 0);
+    basis.claims(rooms, &mut claims);
+    share_pot(rule, pot, &claims)
 }

@@ -53,9 +53,9 @@ impl Period<'_> {
     fn is_unclaimed(&self) -> bool
         ensures { result ≡ unclaimed self.now.method self.now.rooms.now self.now.total }
     {
-        let sums = Sums::of(self.rooms);
         match self.method {
             Method::Remainder { common_area } => {
+                let sums = Sums::of(self.rooms);
                 sums.readings < u64::from(self.total)
                     && u64::from(common_area) + sums.plain_area == 0
             }
@@ -91,6 +91,7 @@ impl Period<'_> {
                 common_area,
                 rooms: self.rooms,
                 total: self.total,
+                sums: Sums::of(self.rooms),
             }
             .bills(rule),
             Method::Stated { floor_percent } => Stated {
@@ -98,6 +99,7 @@ impl Period<'_> {
                 rooms: self.rooms,
                 total: self.total,
                 common: self.common,
+                sums: Sums::of(self.rooms),
             }
             .bills(rule),
         }

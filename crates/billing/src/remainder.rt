@@ -1,6 +1,7 @@
 ghost use Rattle.std.proofs.Props.{props};
-ghost use Rattle.std.specs.Prelude.{◌≡◌, ◌≤◌, None};
+ghost use Rattle.std.specs.Prelude.{◌≡◌, ◌<◌, ◌≤◌, ◌^◌, None};
 ghost use Rattle.house.specs.declared.method.Method.TheVariants as methods;
+ghost use Rattle.billing.specs.Counting as counting;
 ghost use Rattle.billing.specs.Remainder.{unread, claiming_area, common_pot, plain_pot, own_heat, own_heats, common_shares};
 ghost use Rattle.billing.specs.Period.{bills, Billable};
 
@@ -17,6 +18,10 @@ pub(crate) struct Remainder<'a> {
     pub(crate) common_area: u32,
     pub(crate) rooms: &'a PerRoom<CountedRoom>,
     pub(crate) total: u32,
+    // Of the rooms, added up once for all that is worked from them.
+    pub(crate) sums: Sums,
+    ghost summed: { sums ≡ counting.sums rooms.now } by { Prim.hlevel props },
+    ghost narrow: { sums.plain_area < 2 ^ 42 },
     ghost billable: { Billable (methods.Remainder common_area) rooms.now total None } by { Prim.hlevel props },
 }
 
@@ -26,14 +31,14 @@ impl Remainder<'_> {
         ensures { result ≡ unread self.now.rooms.now self.now.total }
     {
         // Here and below `as` narrows what a proof shows to fit; `try_from` would bring a branch that is never taken.
-        self.total - Sums::of(self.rooms).readings as u32
+        self.total - self.sums.readings as u32
     }
 
     // The area that claims it: the common area, and that of the rooms that count as plain.
     fn claiming_area(&self) -> u64
         ensures { result ≡ claiming_area self.now.common_area self.now.rooms.now }
     {
-        u64::from(self.common_area) + Sums::of(self.rooms).plain_area
+        u64::from(self.common_area) + self.sums.plain_area
     }
 
     // What falls to the common area, in whole units.

@@ -1,6 +1,7 @@
 ghost use Rattle.std.proofs.Props.{props};
-ghost use Rattle.std.specs.Prelude.{◌≡◌, ◌-◌, ◌≤◌};
+ghost use Rattle.std.specs.Prelude.{◌≡◌, ◌+◌, ◌-◌, ◌<◌, ◌≤◌, ◌^◌};
 ghost use Rattle.house.specs.declared.method.Method.TheVariants as methods;
+ghost use Rattle.billing.specs.Counting as counting;
 ghost use Rattle.billing.specs.Counting.{read_sum, pipe_sum};
 ghost use Rattle.billing.specs.Pots.{beside, Both};
 ghost use Rattle.billing.specs.Claims.{floors};
@@ -22,6 +23,10 @@ pub(crate) struct Stated<'a> {
     pub(crate) rooms: &'a PerRoom<CountedRoom>,
     pub(crate) total: u32,
     pub(crate) common: Option<u32>,
+    // Of the rooms, added up once for all that is worked from them.
+    pub(crate) sums: Sums,
+    ghost summed: { sums ≡ counting.sums rooms.now } by { Prim.hlevel props },
+    ghost narrow: { sums.readings + sums.pipes < 2 ^ 42 },
     ghost billable: { Billable (methods.Stated floor_percent) rooms.now total common } by { Prim.hlevel props },
 }
 
@@ -30,9 +35,8 @@ impl Stated<'_> {
     fn left(&self) -> u32
         ensures { result ≡ self.now.total - read_sum self.now.rooms.now - pipe_sum self.now.rooms.now }
     {
-        let sums = Sums::of(self.rooms);
         // Here and below `as` narrows what a proof shows to fit; `try_from` would bring a branch that is never taken.
-        self.total - (sums.readings + sums.pipes) as u32
+        self.total - (self.sums.readings + self.sums.pipes) as u32
     }
 
     // As stated, or else all that is left.

@@ -14,6 +14,7 @@ use sharing::rule::Sharing;
 use tables::Table;
 
 // The bills of a period of a house with these readings, or the first reason against it. A room past the end of the readings has none.
+#[tactic(auto, using(crate::proofs::HouseLaws::billable))]
 pub fn work_out<R: Sharing>(
     rule: &R,
     house: &House,

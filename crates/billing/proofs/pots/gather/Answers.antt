@@ -6,6 +6,6 @@ use Rattle.billing.proofs.pots.gather.Goals as goal
 
 pub returns : goal.returns
 returns c =
-    collected _ c.collect.ensures.ran
+    collected _ c.fill.ensures.ran
     (YieldsList-from_filter_map _ (λ claim. claim) (YieldsList-from_slice c.args.claims.now cc) c.filter_map.ensures.closure (λ x r q k. search (rules, tests)))
     ∙ weights_given c.args.claims.now

@@ -6,5 +6,5 @@ use Rattle.billing.proofs.claims.Basis.claims.Goals as goal
 
 pub returns : goal.returns
 returns c =
-    collected _ c.collect.ensures.ran
+    collected _ c.fill.ensures.ran
     (YieldsList-from_map _ (claim c.args.self) (YieldsList-from_slice c.args.rooms.now cc) c.map.ensures.closure (λ x r q k. search rules))

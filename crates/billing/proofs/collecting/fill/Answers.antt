@@ -1,7 +1,7 @@
 use Rattle.std.proofs.Common.{sym, ◌∙◌}
 use Rattle.std.proofs.iter.Next.{said}
 use Rattle.std.proofs.iter.runs.Made.{run_of_exit}
-use Rattle.billing.proofs.collecting.collect.Goals as goal
+use Rattle.billing.proofs.collecting.fill.Goals as goal
 
 pub returns-clause-runs : goal.returns-clause-runs
 returns-clause-runs g c =
