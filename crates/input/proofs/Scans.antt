@@ -1,7 +1,9 @@
--- A line with its end and without.
-use Rattle.std.proofs.Common.{◌≡◌, ℕ, suc, ◌-◌, ◌<◌, true, false, eqb, List, [], ◌∷◌, length, get_or, take, sym, refl, ap, ◌∙◌, arith}
-use Rattle.std.proofs.lemmas.Bool.{cond-true, cond-false}
-use Rattle.input.specs.Parts.{unended}
+-- A line with its end and without, and the first of the events.
+use Rattle.std.proofs.Common.{◌≡◌, ℕ, suc, ◌-◌, ◌<◌, true, false, eqb, List, [], ◌∷◌, length, get_or, take, map, sym, refl, ap, ◌∙◌, arith}
+use Rattle.std.proofs.lemmas.Bool.{cond-true, cond-false, eqb-false}
+use Rattle.forms.specs.Lines.{lines}
+use Rattle.forms.proofs.LineLaws.{first_line}
+use Rattle.input.specs.Parts.{unended, first_event, other_events}
 
 -- what a slice pattern names before the last byte
 abbrev pub body : List ℕ → List ℕ
@@ -20,3 +22,6 @@ unended_same (b ∷ []) off = sym (cond-false _ _ _ (off (omega arith)))
 unended_same (b ∷ c ∷ bs) off =
     let less : length (b ∷ c ∷ bs) - 1 ≡ suc (length (c ∷ bs) - 1) = omega arith in
     ap (λ (v : List ℕ). b ∷ v) (unended_same (c ∷ bs) (λ l. sym (ap (λ (n : ℕ). eqb (get_or (b ∷ c ∷ bs) n 0) 10) less) ∙ off (omega arith)))
+
+pub next_event : (events : List ℕ) → eqb (length events) 0 ≡ false → map unended (lines events) ≡ first_event events ∷ map unended (lines (other_events events))
+next_event events some = ap (map unended) (first_line events (omega (arith, eqb-false (length events) 0 some)))

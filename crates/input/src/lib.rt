@@ -6,7 +6,7 @@ ghost use Rattle.std.specs.Iterator.{YieldsFirstRef, item_count};
 ghost use Rattle.forms.specs.Lines.{lines};
 ghost use Rattle.input.specs.Parts.{before_blank, paper_part, event_part, first_event, other_events, unended, too_long};
 
-use forms::lines::{Lines, ends_line, line_length};
+use forms::lines::{ends_line, line_length};
 use std::marker::Model;
 
 // Of an input, in bytes.
@@ -76,25 +76,24 @@ fn unended(line: &[u8]) -> &[u8]
 // The event lines that are still to come, each without its end.
 #[derive(Drop)]
 pub struct EventLines<'a> {
-    lines: Lines<'a>,
+    events: &'a [u8],
 }
 
 impl<'a> Model for EventLines<'a> {
     ghost use Rattle.std.specs.Prelude.{ℕ, List, map};
+    ghost use Rattle.forms.specs.Lines.{lines};
     ghost use Rattle.input.specs.Parts.{unended};
 
     ghost Value = { List (List ℕ) };
 
-    ghost view = { λ e. map unended e.lines };
+    ghost view = { λ e. map unended (lines e.events.now) };
 }
 
 impl<'a> EventLines<'a> {
     pub fn new(events: &'a [u8]) -> EventLines<'a>
         ensures { result ≡ map unended (lines events.now) }
     {
-        EventLines {
-            lines: Lines::new(events),
-        }
+        EventLines { events }
     }
 }
 
@@ -105,7 +104,13 @@ impl<'a> Iterator for EventLines<'a> {
 
     ghost remaining = { item_count (λ lines. lines) };
 
+    #[tactic(auto, using(crate::proofs::Scans::next_event))]
     fn next(&mut self) -> Option<&'a [u8]> {
-        self.lines.next().map(unended)
+        if self.events.is_empty() {
+            return None;
+        }
+        let (line, others) = split_event(self.events);
+        self.events = others;
+        Some(line)
     }
 }
