@@ -19,7 +19,7 @@ returns-in_err-bills-clause-value g c =
     let s = a.state in
     let reason = c.in_err-bills.field-0.0 in
     let o = ruled_err (refusal a.house.method (counted a.house.rooms s.readings) c.args.total c.args.common) _ reason c.in_err-bills.ensures in
-    let few : s.closed < 600 = rw (← c.self.view_is) c.if-self-ge-MOST_PERIODS.false in
+    let few : s.closed < 600 = rw (← c.self.view_is) (omega (arith, c.if-self-ge-MOST_PERIODS.false)) in
     let j = close_judged a.house s c.args.total c.args.common c.requires few ∙ ap (λ v. ruled v 0) o in
     let p = err_from_is_err_and c.from_residual.result c.from_residual.ensures.1 in
     rw (p.1, p.2) (refused_value (judged a.house s (Close c.args.total c.args.common)) (told a.house s (Close c.args.total c.args.common)) reason j)
@@ -30,7 +30,7 @@ returns-in_err-bills-clause-after g c =
     let s = a.state in
     let reason = c.in_err-bills.field-0.0 in
     let o = ruled_err (refusal a.house.method (counted a.house.rooms s.readings) c.args.total c.args.common) _ reason c.in_err-bills.ensures in
-    let few : s.closed < 600 = rw (← c.self.view_is) c.if-self-ge-MOST_PERIODS.false in
+    let few : s.closed < 600 = rw (← c.self.view_is) (omega (arith, c.if-self-ge-MOST_PERIODS.false)) in
     let j = close_judged a.house s c.args.total c.args.common c.requires few ∙ ap (λ v. ruled v 0) o in
     refused_after (g.R.Sharing.shares a.rule) a (Close c.args.total c.args.common) reason j
 
