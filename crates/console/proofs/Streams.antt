@@ -17,7 +17,7 @@ use Rattle.heat_account.specs.State.{State, no_state}
 use Rattle.console.specs.Opened.{house_in, opening_text}
 use Rattle.console.specs.Season.{event_lines, events_text, kept_text, season_text}
 
-appends_more : (a b c : Option (List ℕ)) (xs ys : List ℕ) → Appends a b xs → Appends b c ys → Appends a c (xs ++ ys)
+pub appends_more : (a b c : Option (List ℕ)) (xs ys : List ℕ) → Appends a b xs → Appends b c ys → Appends a c (xs ++ ys)
 appends_more None b c xs ys first second = tt
 appends_more (Some old) None c xs ys first second = absurd first
 appends_more (Some old) (Some mid) None xs ys first second = absurd second

@@ -42,3 +42,7 @@ first_line (b ∷ bs) h = first_from b bs (eqb b 10) (first_line bs)
 pub next_line : (text line others : List ℕ) (n : ℕ) → line ≡ take n text → others ≡ drop n text → n ≡ line_length text → eqb (length text) 0 ≡ false → lines text ≡ line ∷ lines others
 next_line text line others n front back is some =
     first_line text (omega (arith, eqb-false (length text) 0 some)) ∙ sym (λ i. (front ∙ ap (λ k. take k text) is) i ∷ lines ((back ∙ ap (λ k. drop k text) is) i))
+
+-- a first line is not empty
+pub line_some : (bs : List ℕ) → 0 < length bs → 0 < line_length bs
+line_some bs some = omega (arith, line_by_end bs)

@@ -18,7 +18,7 @@ use Rattle.paper.specs.Lines.{method_form, kind_form, heading_of, room_of, house
 use Rattle.paper.proofs.Tails.{methods, method_says, kinds, kind_says}
 
 -- a line's first half: a word, a number and the bracket behind it
-opened_line : {X : Type 0} (w : List ℕ) (f : Figure → Form X) (s : Spot) → follows (word w (number (λ n. word opening (f n)))) s ≡ and_then (open_read s w) (λ n. follows (f n) (open_left s w))
+pub opened_line : {X : Type 0} (w : List ℕ) (f : Figure → Form X) (s : Spot) → follows (word w (number (λ n. word opening (f n)))) s ≡ and_then (open_read s w) (λ n. follows (f n) (open_left s w))
 opened_line w f s = at_word (word_read s w) refl where
   at_bracket : (n : Figure) (r : Result Figure ℕ) → word_read (number_left (word_left s w)) opening ≡ r → follows (word opening (f n)) (number_left (word_left s w)) ≡ and_then (and_then r (λ _. Ok n)) (λ n. follows (f n) (open_left s w))
   at_bracket n (Ok b) e = then_word opening (f n) (number_left (word_left s w)) (open_left s w) b (sym e) refl
@@ -32,7 +32,7 @@ opened_line w f s = at_word (word_read s w) refl where
   at_word (Ok a) e = then_word w _ s (word_left s w) a (sym e) refl ∙ at_number (number_read (word_left s w)) refl
   at_word (Err c) e = no_word w _ s c (sym e)
 
-open_line : (s : Spot) (w : List ℕ) → (open_left s w).line ≡ s.line
+pub open_line : (s : Spot) (w : List ℕ) → (open_left s w).line ≡ s.line
 open_line s w = left_line (number_left (word_left s w)) opening ∙ left_line s w
 
 -- how a line goes on behind its first half

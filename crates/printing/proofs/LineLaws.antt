@@ -15,10 +15,10 @@ module _ {X : Type 0} (line : Room → X → List ℕ) where
   abbrev pub to_come : Zip (Iter Room) (Iter X) → List ℕ
   to_come s = lines line (iter_rest (zip_first s)) (iter_rest (zip_second s))
 
-  no_rooms : (rooms : List Room) (entries : List X) → rooms ≡ [] → lines line rooms entries ≡ []
+  pub no_rooms : (rooms : List Room) (entries : List X) → rooms ≡ [] → lines line rooms entries ≡ []
   no_rooms rooms entries e = rw e
 
-  no_entries : (rooms : List Room) (entries : List X) → entries ≡ [] → lines line rooms entries ≡ []
+  pub no_entries : (rooms : List Room) (entries : List X) → entries ≡ [] → lines line rooms entries ≡ []
   no_entries [] entries e = refl
   no_entries (room ∷ rooms) entries e = rw e
 

@@ -22,6 +22,10 @@ within_limits total weights room e = record {
   weighed = λ h. grind (arith, nat_tests);
 }
 
+-- the place takes the shares of a sharing that is not refused
+pub place_fits : (total : ℕ) (weights : List ℕ) (room : ℕ) → refusal total weights room ≡ None → length weights ≤ room
+place_fits total weights room e = grind (arith, nat_tests)
+
 -- a sharing within the limits is not refused
 pub accepted : (total : ℕ) (weights : List ℕ) (room : ℕ) → length weights ≤ room → length weights ≤ 256 → total ≤ 100000000 → sum weights ≤ 100000000 → (0 < total → 0 < sum weights) → refusal total weights room ≡ None
 accepted total weights room a b c d e = grind (arith, nat_tests)
