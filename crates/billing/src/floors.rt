@@ -1,7 +1,7 @@
 ghost use Rattle.std.specs.Prelude.{◌≡◌, ◌≤◌, map, length, sum};
 ghost use Rattle.std.specs.List.{AllByRecursion};
 ghost use Rattle.billing.specs.Pots.{beside};
-ghost use Rattle.billing.specs.Claims.{floors, floor_by, surcharge_by, excess_by, gross_by, Floored, Among};
+ghost use Rattle.billing.specs.Claims.{floor_by, surcharge_by, excess_by, gross_by, Among};
 
 use crate::collecting::{PerRoom, collect};
 use crate::counting::{CountedRoom, Role};
@@ -18,11 +18,11 @@ pub(crate) struct Floors {
 
 // Below, `as` narrows what a proof shows to fit; `try_from` would bring a branch that is never taken.
 impl Floors {
-    pub(crate) fn of(percent: u32, rooms: &PerRoom<CountedRoom>) -> Floors
-        requires { Floored percent rooms.now }
-        ensures { result ≡ floors percent rooms.now }
+    pub(crate) fn of(percent: u32, sums: Sums) -> Floors
+        requires readings { sums.readings ≤ 100000000 }
+        requires area { sums.read_area ≤ 100000000 }
+        ensures { result ≡ record { percent = percent; readings = sums.readings; area = sums.read_area } }
     {
-        let sums = Sums::of(rooms);
         Floors {
             percent,
             readings: sums.readings as u32,

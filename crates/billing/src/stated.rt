@@ -56,7 +56,7 @@ impl Stated<'_> {
     fn floors(&self) -> Floors
         ensures { result ≡ floors self.now.floor_percent self.now.rooms.now }
     {
-        Floors::of(self.floor_percent, self.rooms)
+        Floors::of(self.floor_percent, self.sums)
     }
 
     fn gross_heats<R: Sharing>(&self, rule: &R) -> PerRoom<u32>
